@@ -11,7 +11,7 @@ pub record Call (words : List (List ℕ)) (input left before now : Option (List 
   -- at most one byte more than a listing may have is read
   pub bounded : TakenWithin 16777217 input left
   -- a source whose run ended was read to its end
-  pub through : IsReadThrough status left
+  pub through : IsReadThrough words status left
   pub counted : (counts.source_before ≤ counts.source_now) × (counts.sink_before ≤ counts.sink_now)
   -- the answer, and whether it was written
   pub ended : Ended words input before now counts status

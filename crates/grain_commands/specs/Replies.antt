@@ -1,5 +1,5 @@
 -- What the program answers: a status and a text.
-use Rattle.std.specs.Prelude.{◌≡◌, ◌⊎◌, ℕ, Bool, true, false, List, [], ◌∷◌, ◌++◌, Option, Result, Ok, Err, IfSome, codes, bytes_eq}
+use Rattle.std.specs.Prelude.{◌≡◌, ◌⊎◌, ◌||◌, ℕ, Bool, true, false, List, [], ◌∷◌, ◌++◌, Option, Some, None, is_some, Result, Ok, Err, IfSome, codes, bytes_eq}
 use Rattle.std.specs.Fmt.{decimal}
 use Rattle.grain_program.specs.Refusals.{refusal_name}
 use Rattle.grain_program.specs.Rules.{address_of}
@@ -10,14 +10,31 @@ use Rattle.grain_listing.specs.Reading.{ListingView, reads}
 use Rattle.grain_streams.specs.Puts.{PutWhole, PutPart}
 use Rattle.grain_commands.specs.Reports.{line_end}
 use Rattle.grain_commands.specs.Runs.{Reported, engine_of, start}
+use Rattle.grain_commands.specs.SelfListings.{self_listing, self_number}
 use Rattle.grain_streams.specs.Streams.{Rose, added, PartAdded}
 use Rattle.grain_streams.specs.declared.sinks.Put.{Put}
 use Rattle.grain_listing.specs.declared.reasons.BadLine.{BadLine}
 
--- the one command so far is the one word `run`
+-- the command `run` is that one word
 abbrev pub is_run : List (List ℕ) → Bool
 is_run (w ∷ []) = bytes_eq w (codes "run")
 is_run ws = false
+
+-- the words are `self` and a number: then the operations are told
+abbrev pub tells_operations : List (List ℕ) → Bool
+tells_operations words = is_some (self_number words)
+
+-- the commands so far are these two
+abbrev pub is_command : List (List ℕ) → Bool
+is_command words = is_run words || tells_operations words
+
+abbrev made_or_held : Option ℕ → Option (List ℕ) → Option (List ℕ)
+made_or_held None input = input
+made_or_held (Some n) input = Some (self_listing n)
+
+-- what a command runs: the listing that it makes, or else what the source holds, if the source says it
+abbrev pub listing_for : List (List ℕ) → Option (List ℕ) → Option (List ℕ)
+listing_for words input = made_or_held (self_number words) input
 
 abbrev pub usage_text : List ℕ
 usage_text = codes "usage: run, check, list or self N" ++ line_end
@@ -32,26 +49,26 @@ refusal_text r =
     codes "refused at " ++ decimal (address_of r) ++ codes ": " ++ refusal_name r ++ line_end
 
 -- what is answered to what the bytes read to
-pub data Replies (said : Result ListingView BadLine) : ℕ → List ℕ → Type 0 where
+pub data Replies (told : Bool) (said : Result ListingView BadLine) : ℕ → List ℕ → Type 0 where
   -- it is no listing
-  no_listing : {bad : BadLine} → said ≡ Err bad → Replies said 3 (bad_line_text bad)
+  no_listing : {bad : BadLine} → said ≡ Err bad → Replies told said 3 (bad_line_text bad)
   -- its parts are no program
   refused : {s : ListingView} {r : Refusal} → said ≡ Ok s → (IsProgram s.parts → ⊥) →
-      IsRefusal s.parts r → Replies said 4 (refusal_text r)
+      IsRefusal s.parts r → Replies told said 4 (refusal_text r)
   -- its program is run
   reported : {s : ListingView} {status : ℕ} {text : List ℕ} → said ≡ Ok s → IsProgram s.parts →
-      Reported s.parts (engine_of s.limits s.fast_operators s.strict_properties)
+      Reported told s.parts (engine_of s.limits s.fast_operators s.strict_properties)
       (start s.scope s.host) status text →
-      Replies said status text
+      Replies told said status text
 
 -- what is answered to the words and to the bytes of the source, if it says them
 pub data Answers (words : List (List ℕ)) (input : Option (List ℕ)) : ℕ → List ℕ → Type 0 where
   -- the words are no command
-  no_command : is_run words ≡ false → Answers words input 2 usage_text
-  -- the words are `run`, and the source was read to its end
-  replied : {said : Result ListingView BadLine} {status : ℕ} {text : List ℕ} → is_run words ≡ true →
-      IfSome input (λ bytes. reads bytes ≡ said) → Replies said status text →
-      Answers words input status text
+  no_command : is_command words ≡ false → Answers words input 2 usage_text
+  -- the words are a command, and a source that is read was read to its end
+  replied : {said : Result ListingView BadLine} {status : ℕ} {text : List ℕ} →
+      is_command words ≡ true → IfSome (listing_for words input) (λ bytes. reads bytes ≡ said) →
+      Replies (tells_operations words) said status text → Answers words input status text
 
 -- the counts of faults of a source and of a sink, before a call and after it
 pub record Counts : Type 0 where

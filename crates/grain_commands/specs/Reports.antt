@@ -18,6 +18,11 @@ line_end = 10 ∷ []
 abbrev pub report_value : List Cell → Dynamic → List ℕ
 report_value cells value = codes "value " ++ quoted (seen cells value) ++ line_end
 
+-- the same in one line with a number of operations
+abbrev pub counted_value : List Cell → Dynamic → ℕ → List ℕ
+counted_value cells value operations = codes "value " ++ quoted (seen cells value) ++
+    codes " operations " ++ decimal operations ++ line_end
+
 -- the slot of a chain's step stands after a colon
 abbrev pub slot_text : Option ℕ → List ℕ
 slot_text None = []

@@ -1,5 +1,6 @@
 -- How the program's runs begin, and what is written of their ends.
-use Rattle.std.specs.Prelude.{◌≡◌, ◌++◌, ℕ, Bool, true, List, []}
+use Rattle.std.specs.Prelude.{◌≡◌, ◌++◌, ℕ, Bool, true, false, List, []}
+use Rattle.grain_value.specs.declared.values.Dynamic.{Dynamic}
 use Rattle.grain_value.specs.declared.values.Limits.{Limits}
 use Rattle.grain_value.specs.declared.scopes.Entry.{Entry}
 use Rattle.grain_value.specs.declared.stores.Cell.{Cell}
@@ -12,7 +13,7 @@ use Rattle.grain_global.specs.declared.engines.Engine.{Engine}
 use Rattle.grain_means.specs.Worlds.{Answer, Came, Failed}
 use Rattle.grain_means.specs.Means.{Begin, Finish, Means}
 use Rattle.grain_vm.specs.Machines.{begin}
-use Rattle.grain_commands.specs.Reports.{report_value, report_fault}
+use Rattle.grain_commands.specs.Reports.{counted_value, report_value, report_fault}
 
 -- the limits that the listing says, and whether it says that operators are fast and properties
 -- strict; natives may call functions back
@@ -41,13 +42,24 @@ answer_report cells (Failed p) trace = report_fault p trace
 abbrev pub report : Finish TableHost → List ℕ
 report end = end.host.printed ++ answer_report end.cells end.answer end.trace
 
+-- what is written of a value: what the host has printed and the value's report; or, where operations are
+-- told, the value and how many there were
+abbrev pub value_text : Bool → Finish TableHost → Dynamic → List ℕ
+value_text false end v = end.host.printed ++ report_value end.cells v
+value_text true end v = counted_value end.cells v end.global.num_operations
+
+-- what is written of an end with this answer
+abbrev pub answer_text : Bool → Finish TableHost → Answer → List ℕ
+answer_text told end (Came v) = value_text told end v
+answer_text told end (Failed p) = end.host.printed ++ report_fault p end.trace
+
 -- a status and a text tell the end that the program means under the engine from the beginning on,
 -- which is not want of memory
-pub record Reported (program : View) (engine : Engine) (first : Begin TableHost) (status : ℕ)
+pub record Reported (told : Bool) (program : View) (engine : Engine) (first : Begin TableHost) (status : ℕ)
     (text : List ℕ) : Type 0 where
   pub end : Finish TableHost
   pub instructions : ℕ
   pub means : Means table_law program engine first end instructions
   pub number : status ≡ status_of end.answer
-  pub written : text ≡ report end
+  pub written : text ≡ answer_text told end end.answer
   pub memory : end.answer ≡ Failed NoMemory → ⊥

@@ -10,9 +10,9 @@ use Rattle.grain_program.specs.declared.verifier.refusals.Refusal.{Refusal}
 use Rattle.grain_means.specs.Worlds.{Came, Failed}
 use Rattle.grain_means.specs.Means.{Finish, Means}
 use Rattle.grain_listing.specs.Reading.{ListingView, reads}
-use Rattle.grain_commands.specs.Replies.{Counts, is_run, usage_text, bad_line_text, refusal_text}
-use Rattle.grain_commands.specs.Reports.{report_value, report_fault}
-use Rattle.grain_commands.specs.Runs.{engine_of, start}
+use Rattle.grain_commands.specs.Replies.{Counts, is_command, is_run, listing_for, tells_operations, usage_text, bad_line_text, refusal_text}
+use Rattle.grain_commands.specs.Reports.{report_fault}
+use Rattle.grain_commands.specs.Runs.{engine_of, start, value_text}
 use Rattle.grain_streams.specs.Streams.{Rose, IsSpent, added, PartAdded}
 use Rattle.grain_listing.specs.declared.reasons.BadLine.{BadLine}
 
@@ -40,20 +40,23 @@ pub record Says (words : List (List ℕ)) (input : Option (List ℕ)) (status : 
     (text : List ℕ) : Type 0 where
   pub known : status ≤ 4
   -- 2 exactly where the words are no command: the usage
-  pub no_command : is_run words ≡ false → status ≡ 2
-  pub usage : status ≡ 2 → (is_run words ≡ false) × (text ≡ usage_text)
-  -- 0: the run ends in a value, and the text is what was printed and its report
+  pub no_command : is_command words ≡ false → status ≡ 2
+  pub usage : status ≡ 2 → (is_command words ≡ false) × (text ≡ usage_text)
+  -- 0: the run ends in a value, and the text is what was printed and its report, or tells the operations
   pub value : status ≡ 0 → (v : Dynamic) × (end : Finish TableHost) × (end.answer ≡ Came v) ×
-      IfSome input (λ bytes. RunEnds bytes end) × (text ≡ end.host.printed ++ report_value end.cells v)
+      IfSome (listing_for words input) (λ bytes. RunEnds bytes end) ×
+      (text ≡ value_text (tells_operations words) end v)
   -- 1: the run ends in a fault, and the text is what was printed and its report
   pub fault : status ≡ 1 → (p : Problem) × (end : Finish TableHost) × (end.answer ≡ Failed p) ×
-      IfSome input (λ bytes. RunEnds bytes end) ×
+      IfSome (listing_for words input) (λ bytes. RunEnds bytes end) ×
       (text ≡ end.host.printed ++ report_fault p end.trace)
   -- 3: the bytes are no listing, and the text has the line and the reason
-  pub no_listing : status ≡ 3 → (bad : BadLine) × IfSome input (λ bytes. reads bytes ≡ Err bad) ×
+  pub no_listing : status ≡ 3 → (bad : BadLine) ×
+      IfSome (listing_for words input) (λ bytes. reads bytes ≡ Err bad) ×
       (text ≡ bad_line_text bad)
   -- 4: the parts are refused, and the text has the address and the rule
-  pub refused : status ≡ 4 → (refusal : Refusal) × IfSome input (λ bytes. IsRefused bytes refusal) ×
+  pub refused : status ≡ 4 → (refusal : Refusal) ×
+      IfSome (listing_for words input) (λ bytes. IsRefused bytes refusal) ×
       (text ≡ refusal_text refusal)
 
 -- what is written, by the status, if the sink says it
@@ -86,27 +89,30 @@ pub record NoneRose (counts : Counts) : Type 0 where
 -- Which status and text are due if no stream failed. Want of memory alone may stand in their place.
 pub record Completes (words : List (List ℕ)) (input before now : Option (List ℕ)) (counts : Counts)
     (status : ℕ) : Type 0 where
-  -- a run that ends in a value: 0, what was printed and its report
-  pub value : is_run words ≡ true → NoneRose counts → (bytes : List ℕ) → input ≡ Some bytes →
+  -- a run that ends in a value: 0, what was printed and its report, or the value and its operations
+  pub value : is_command words ≡ true → NoneRose counts → (bytes : List ℕ) →
+      listing_for words input ≡ Some bytes →
       (v : Dynamic) (end : Finish TableHost) → end.answer ≡ Came v → RunEnds bytes end →
-      Gives 0 (end.host.printed ++ report_value end.cells v) before now status
+      Gives 0 (value_text (tells_operations words) end v) before now status
   -- a run that ends in a fault: 1, what was printed and its report
-  pub fault : is_run words ≡ true → NoneRose counts → (bytes : List ℕ) → input ≡ Some bytes →
+  pub fault : is_command words ≡ true → NoneRose counts → (bytes : List ℕ) →
+      listing_for words input ≡ Some bytes →
       (p : Problem) (end : Finish TableHost) → end.answer ≡ Failed p → RunEnds bytes end →
       Gives 1 (end.host.printed ++ report_fault p end.trace) before now status
   -- no command: 2 and the usage, whatever the source does
-  pub usage : is_run words ≡ false → (Rose counts.sink_before counts.sink_now → ⊥) →
+  pub usage : is_command words ≡ false → (Rose counts.sink_before counts.sink_now → ⊥) →
       Gives 2 usage_text before now status
   -- no listing: 3, the line and the reason
-  pub no_listing : is_run words ≡ true → NoneRose counts → (bytes : List ℕ) →
-      input ≡ Some bytes →
+  pub no_listing : is_command words ≡ true → NoneRose counts → (bytes : List ℕ) →
+      listing_for words input ≡ Some bytes →
       (bad : BadLine) → reads bytes ≡ Err bad →
       Gives 3 (bad_line_text bad) before now status
   -- no program: 4 and the first rule that is broken
-  pub refused : is_run words ≡ true → NoneRose counts → (bytes : List ℕ) → input ≡ Some bytes →
+  pub refused : is_command words ≡ true → NoneRose counts → (bytes : List ℕ) →
+      listing_for words input ≡ Some bytes →
       (refusal : Refusal) → IsRefused bytes refusal →
       Gives 4 (refusal_text refusal) before now status
 
 -- a source whose run ended was read to its end
-abbrev pub IsReadThrough : ℕ → Option (List ℕ) → Type 0
-IsReadThrough status left = status ≤ 1 → IsSpent left
+abbrev pub IsReadThrough : List (List ℕ) → ℕ → Option (List ℕ) → Type 0
+IsReadThrough words status left = is_run words ≡ true → status ≤ 1 → IsSpent left

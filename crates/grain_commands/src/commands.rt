@@ -1,6 +1,6 @@
 //! The commands: the call that does all that the program does.
 
-ghost use Rattle.std.specs.Prelude.{◌≡◌, ◌≤◌, true, false, IfOk, OnErr, map, string_bytes};
+ghost use Rattle.std.specs.Prelude.{◌≡◌, ◌≤◌, ℕ, List, Option, true, false, IfOk, OnErr, map, string_bytes};
 ghost use Rattle.grain_streams.specs.Reads.{ReadInTurn};
 ghost use Rattle.grain_commands.specs.Headline.{PrintsCoreEnd};
 ghost use Rattle.grain_commands.specs.Replies.{is_run, counts_of, Answers, Ended, Handed};
@@ -8,8 +8,9 @@ ghost use Rattle.grain_commands.specs.Statuses.{Beside, Completes, IsReadThrough
 ghost use Rattle.grain_streams.specs.Streams.{Rose, TakenWithin};
 
 use crate::laws::statuses_are_due;
-use crate::pipeline::run_listing;
+use crate::pipeline::{run_listing, run_self};
 use crate::replies::{Reply, usage};
+use crate::self_listings::self_number;
 use grain_listing::MOST_BYTES;
 use grain_streams::{Sink, SinkFailed, Source, SourceFailed, Status, read_all, write_all};
 use grain_value::OutOfMemory;
@@ -27,6 +28,22 @@ fn is_run(words: &[String]) -> bool
     }
 }
 
+/// What is answered to words for which nothing is read.
+fn answer_unread<L: Ledger>(
+    alloc: Global,
+    words: &[String],
+    steps: &mut Steps<L>,
+) -> Result<Reply, OutOfMemory>
+    requires unread { is_run (map string_bytes words.now) ≡ false }
+    ensures { (input : Option (List ℕ)) → IfOk result (λ r.
+        Answers (map string_bytes words.now) input r.status r.text) }
+{
+    match self_number(alloc, words)? {
+        None => usage(alloc),
+        Some(count) => run_self(alloc, count, steps),
+    }
+}
+
 /// What is answered to the words and to what the source holds.
 fn answer<S: Source, L: Ledger>(
     alloc: Global,
@@ -38,14 +55,15 @@ fn answer<S: Source, L: Ledger>(
         Answers (map string_bytes words.now) (S.left source.old) r.status r.text)) }
     ensures failed { IfOk result (λ o. OnErr o (Rose (S.faults source.old) (S.faults source.new))) }
     ensures command { IfOk result (λ o. OnErr o (is_run (map string_bytes words.now) ≡ true)) }
-    ensures through { IfOk result (λ o. IfOk o (λ r. IsReadThrough r.status (S.left source.new))) }
+    ensures through { IfOk result (λ o. IfOk o (λ r.
+        IsReadThrough (map string_bytes words.now) r.status (S.left source.new))) }
     ensures bounded { TakenWithin 16777217 (S.left source.old) (S.left source.new) }
     ensures idle { is_run (map string_bytes words.now) ≡ false → source.new ≡ source.old }
     ensures counted { S.faults source.old ≤ S.faults source.new }
     ensures reads { ReadInTurn S.reads 16777217 source.old source.new }
 {
     if !is_run(words) {
-        let reply = usage(alloc)?;
+        let reply = answer_unread(alloc, words, steps)?;
         return Ok(Ok(reply));
     }
     match read_all(alloc, source, MOST_BYTES)? {
@@ -66,7 +84,7 @@ fn answer_and_write<S: Source, K: Sink, L: Ledger>(
     steps: &mut Steps<L>,
 ) -> Status
     ensures bounded { TakenWithin 16777217 (S.left source.old) (S.left source.new) }
-    ensures through { IsReadThrough result.number (S.left source.new) }
+    ensures through { IsReadThrough (map string_bytes words.now) result.number (S.left source.new) }
     ensures idle { is_run (map string_bytes words.now) ≡ false → source.new ≡ source.old }
     ensures counted { (S.faults source.old ≤ S.faults source.new) ×
         (K.faults sink.old ≤ K.faults sink.new) }
@@ -94,9 +112,11 @@ fn answer_and_write<S: Source, K: Sink, L: Ledger>(
 }
 
 /// Does what the words say. For `run` it reads a listing from the source, verifies it, runs it, and
-/// writes the report of its end to the sink. At most 16,777,217 bytes are read. The status, and
-/// what is written:
-/// - 0, the run ended in a value: its report;
+/// writes the report of its end to the sink. At most 16,777,217 bytes are read. For `self` and a number
+/// from 1 to 10000 it does the same with a listing that it makes, of so many functions, and reads
+/// nothing. The status, and what is written:
+/// - 0, the run ended in a value: its report, or for `self` the value and how many operations there
+///   were;
 /// - 1, the run ended in a fault of the script: its report;
 /// - 2, the words are no command: the usage;
 /// - 3, the source holds no listing: the reason;
@@ -114,8 +134,9 @@ pub fn run_words<S: Source, K: Sink, L: Ledger>(
     steps: &mut Steps<L>,
 ) -> Status
     ensures bounded { TakenWithin 16777217 (S.left source.old) (S.left source.new) }
-    // a source whose run ended was read to its end, and words that are no command read nothing
-    ensures through { IsReadThrough result.number (S.left source.new) }
+    // a source whose run ended was read to its end, and words that are not `run` read nothing
+    ensures through { IsReadThrough (map string_bytes words.now.items) result.number
+        (S.left source.new) }
     ensures idle { is_run (map string_bytes words.now.items) ≡ false → source.new ≡ source.old }
     ensures counted { (S.faults source.old ≤ S.faults source.new) ×
         (K.faults sink.old ≤ K.faults sink.new) }

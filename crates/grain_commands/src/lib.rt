@@ -9,6 +9,7 @@ mod pipeline;
 mod program;
 mod replies;
 mod reports;
+mod self_listings;
 
 pub use commands::run_words;
 pub use host::run_standard;

@@ -1,13 +1,15 @@
-//! What `run` does with the bytes of its source: it reads a listing, verifies what that says, and
-//! runs the program.
+//! What `run` does with the bytes of its source, and `self` with those that it makes: it reads a listing,
+//! verifies what that says, and runs the program.
 
-ghost use Rattle.std.specs.Prelude.{◌<◌, Ok, IfOk};
+ghost use Rattle.std.specs.Prelude.{◌<◌, ◌≤◌, Ok, IfOk, true, false};
 ghost use Rattle.grain_listing.specs.Reading.{reads};
 ghost use Rattle.grain_listing.specs.ListingViews.{set_up_of, IsReady};
 ghost use Rattle.grain_commands.specs.Replies.{Replies};
 ghost use Rattle.grain_commands.specs.Runs.{Reported, engine_of, start};
+ghost use Rattle.grain_commands.specs.SelfListings.{self_listing};
 
-use crate::replies::{Reply, fault_reply, no_listing, refused, value_reply};
+use crate::replies::{Reply, counted_reply, fault_reply, no_listing, refused, value_reply};
+use crate::self_listings::self_listing;
 use grain_host::TableHost;
 use grain_listing::{Listing, read};
 use grain_program::{Program, verify};
@@ -17,7 +19,7 @@ use std::alloc::Global;
 use std::sync::ledger::Ledger;
 
 /// Runs the program on the scope, with the host, and reports the end. At least one operation is
-/// allowed.
+/// allowed. `told` says whether a value's report tells how many operations there were.
 fn run_program<L: Ledger>(
     alloc: Global,
     program: &Program,
@@ -26,10 +28,11 @@ fn run_program<L: Ledger>(
     strict_properties: bool,
     host: TableHost,
     scope: Scope,
+    told: bool,
     steps: &mut Steps<L>,
 ) -> Result<Reply, OutOfMemory>
     requires { 0 < limits.operations }
-    ensures { IfOk result (λ r. Reported program.now (engine_of limits fast_operators
+    ensures { IfOk result (λ r. Reported told program.now (engine_of limits fast_operators
         strict_properties) (start scope host) r.status r.text) }
 {
     let mut engine = Engine::new(alloc, limits);
@@ -40,6 +43,10 @@ fn run_program<L: Ledger>(
     let mut cells = Store::new(alloc);
     let mut host = host;
     match vm.eval_with_callbacks(alloc, &mut host, &mut cells, &mut scope, program, steps) {
+        Ok(value) if told => {
+            let operations = vm.into_global_state().num_operations;
+            counted_reply(alloc, &value, &cells, operations)
+        }
         Ok(value) => value_reply(alloc, host.printed(), &value, &cells),
         Err(fault) => fault_reply(alloc, host.printed(), &fault, vm.fault_trace()),
     }
@@ -49,10 +56,11 @@ fn run_program<L: Ledger>(
 fn run_set_up<L: Ledger>(
     alloc: Global,
     setup: Listing,
+    told: bool,
     steps: &mut Steps<L>,
 ) -> Result<Reply, OutOfMemory>
     requires { IsReady setup }
-    ensures { IfOk result (λ r. Replies (Ok (set_up_of setup)) r.status r.text) }
+    ensures { IfOk result (λ r. Replies told (Ok (set_up_of setup)) r.status r.text) }
 {
     let Listing {
         parts,
@@ -72,8 +80,24 @@ fn run_set_up<L: Ledger>(
             strict_properties,
             host,
             scope,
+            told,
             steps,
         ),
+    }
+}
+
+// Reads a listing, verifies what it says and runs it.
+fn run_bytes<L: Ledger>(
+    alloc: Global,
+    bytes: &[u8],
+    told: bool,
+    steps: &mut Steps<L>,
+) -> Result<Reply, OutOfMemory>
+    ensures { IfOk result (λ r. Replies told (reads bytes.now) r.status r.text) }
+{
+    match read(alloc, bytes)? {
+        Err(bad) => no_listing(alloc, bad),
+        Ok(setup) => run_set_up(alloc, setup, told, steps),
     }
 }
 
@@ -85,10 +109,20 @@ pub fn run_listing<L: Ledger>(
     bytes: &[u8],
     steps: &mut Steps<L>,
 ) -> Result<Reply, OutOfMemory>
-    ensures { IfOk result (λ r. Replies (reads bytes.now) r.status r.text) }
+    ensures { IfOk result (λ r. Replies false (reads bytes.now) r.status r.text) }
 {
-    match read(alloc, bytes)? {
-        Err(bad) => no_listing(alloc, bad),
-        Ok(setup) => run_set_up(alloc, setup, steps),
-    }
+    run_bytes(alloc, bytes, false, steps)
+}
+
+/// The same with the listing of so many functions. Of a value it tells how many operations there were.
+pub fn run_self<L: Ledger>(
+    alloc: Global,
+    count: u64,
+    steps: &mut Steps<L>,
+) -> Result<Reply, OutOfMemory>
+    requires small { count ≤ 10000 }
+    ensures { IfOk result (λ r. Replies true (reads (self_listing count)) r.status r.text) }
+{
+    let listing = self_listing(alloc, count)?;
+    run_bytes(alloc, listing.as_str().as_bytes(), true, steps)
 }

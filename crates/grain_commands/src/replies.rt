@@ -5,7 +5,7 @@ ghost use Rattle.std.specs.Fmt.{decimal};
 ghost use Rattle.grain_fault.specs.Problems.{problem_of};
 ghost use Rattle.grain_fault.specs.declared.faults.EvalAltResult.TheVariants as faults;
 ghost use Rattle.grain_program.specs.declared.verifier.refusals.Refusal.TheVariants as refusals;
-ghost use Rattle.grain_commands.specs.Reports.{line_end, report_value, report_fault};
+ghost use Rattle.grain_commands.specs.Reports.{counted_value, line_end, report_value, report_fault};
 ghost use Rattle.grain_commands.specs.Replies.{usage_text, bad_line_text, refusal_text};
 
 use crate::reports::{report_fault, report_value};
@@ -99,6 +99,25 @@ pub fn value_reply(
     let report = report_value(alloc, value, cells)?;
     let mut text = printed.copy(alloc)?;
     text.push_str(report.as_str())?;
+    Ok(Reply { status: 0, text })
+}
+
+/// The reply to a run that ended in a value, where its operations are told: 0, the value and their
+/// number.
+pub fn counted_reply(
+    alloc: Global,
+    value: &Dynamic,
+    cells: &Store,
+    operations: u64,
+) -> Result<Reply, OutOfMemory>
+    ensures status { IfOk result (λ r. r.status ≡ 0) }
+    ensures text { IfOk result (λ r. r.text ≡ counted_value cells.now value.now operations) }
+{
+    let mut text = Text::copy_of(alloc, "value ")?;
+    value.write_content(&mut text, cells)?;
+    text.push_str(" operations ")?;
+    text.push_number(operations)?;
+    text.push_str("\n")?;
     Ok(Reply { status: 0, text })
 }
 
