@@ -1,5 +1,5 @@
 -- What is answered, by what the steps on the way say.
-use Rattle.std.proofs.Common.{◌≡◌, ◌≢◌, ◌⊎◌, ◌<◌, ◌≤◌, ◌++◌, inl, inr, ℕ, true, List, [], length, Option, Some, None, option_map, nat_lt, lt-ltb, append-nil, length-append, arith, Result, Ok, Err, IfOk, IfSome, refl, sym, ap, ◌∙◌, subst}
+use Rattle.std.proofs.Common.{◌≡◌, ◌≢◌, ◌⊎◌, ◌<◌, ◌≤◌, ◌++◌, inl, inr, ℕ, Bool, true, List, [], length, Option, Some, None, option_map, nat_lt, lt-ltb, append-nil, length-append, arith, Result, Ok, Err, IfOk, IfSome, refl, sym, ap, ◌∙◌, subst}
 use Rattle.grain_value.specs.declared.memory.OutOfMemory.{OutOfMemory}
 use Rattle.grain_program.specs.View.{View}
 use Rattle.grain_program.specs.Typing.{IsProgram, IsRefusal}
@@ -14,11 +14,11 @@ use Rattle.grain_commands.specs.Runs.{Reported, engine_of, start}
 use Rattle.grain_listing.specs.declared.reasons.BadLine.{BadLine}
 use Rattle.grain_commands.specs.declared.replies.Reply.{Reply}
 
-pub answers_reason : (said : Result ListingView BadLine) (e : BadLine) (r : Result Reply OutOfMemory) →
+pub answers_reason : (told : Bool) (said : Result ListingView BadLine) (e : BadLine) (r : Result Reply OutOfMemory) →
     IfOk r (λ x. x.status ≡ 3) → IfOk r (λ x. x.text ≡ bad_line_text e) → Err e ≡ said →
-    IfOk r (λ x. Replies said x.status x.text)
-answers_reason said e (Err m) status text is = tt
-answers_reason said e (Ok x) status text is = rw (status, text) (no_listing (sym is))
+    IfOk r (λ x. Replies told said x.status x.text)
+answers_reason told said e (Err m) status text is = tt
+answers_reason told said e (Ok x) status text is = rw (status, text) (no_listing (sym is))
 
 is_refusal : (p : View) (r : Refusal) → r ≢ refusals.Memory → (r ≡ refusals.Memory) ⊎
     IsRefusal p r →
@@ -26,22 +26,22 @@ is_refusal : (p : View) (r : Refusal) → r ≢ refusals.Memory → (r ≡ refus
 is_refusal p r other (inl e) = absurd (other e)
 is_refusal p r other (inr h) = h
 
-pub answers_refusal : (s : ListingView) (e : Refusal) (r : Result Reply OutOfMemory) →
+pub answers_refusal : (told : Bool) (s : ListingView) (e : Refusal) (r : Result Reply OutOfMemory) →
     IfOk r (λ x. x.status ≡ 4) → IfOk r (λ x. x.text ≡ refusal_text e) →
     IfOk r (λ x. e ≢ refusals.Memory) →
     (IsProgram s.parts → e ≡ refusals.Memory) → (e ≡ refusals.Memory) ⊎ IsRefusal s.parts e →
-    IfOk r (λ x. Replies (Ok s) x.status x.text)
-answers_refusal s e (Err m) status text other complete first = tt
-answers_refusal s e (Ok x) status text other complete first =
+    IfOk r (λ x. Replies told (Ok s) x.status x.text)
+answers_refusal told s e (Err m) status text other complete first = tt
+answers_refusal told s e (Ok x) status text other complete first =
     rw (status, text) (refused refl (λ p. other (complete p)) (is_refusal s.parts e other first))
 
-pub answers_end : (s : ListingView) (r : Result Reply OutOfMemory) → IsProgram s.parts →
-    IfOk r (λ x. Reported s.parts (engine_of s.limits s.fast_operators s.strict_properties)
+pub answers_end : (told : Bool) (s : ListingView) (r : Result Reply OutOfMemory) → IsProgram s.parts →
+    IfOk r (λ x. Reported told s.parts (engine_of s.limits s.fast_operators s.strict_properties)
     (start s.scope s.host)
     x.status x.text) →
-    IfOk r (λ x. Replies (Ok s) x.status x.text)
-answers_end s (Err m) valid told = tt
-answers_end s (Ok x) valid told = reported refl valid told
+    IfOk r (λ x. Replies told (Ok s) x.status x.text)
+answers_end told s (Err m) valid ends = tt
+answers_end told s (Ok x) valid ends = reported refl valid ends
 
 too_long : (bytes : List ℕ) → 16777216 < length bytes → reads bytes ≡ Err (bad_line 0 TooLong)
 too_long bytes h =

@@ -1,5 +1,5 @@
 -- What an ended call says, and which status was due in it.
-use Rattle.std.proofs.Common.{◌≡◌, ◌++◌, inl, inr, ℕ, true, false, List, Option, Some, Result, Ok, Err, IfSome, refl, sym, ap, ◌∙◌, subst}
+use Rattle.std.proofs.Common.{◌≡◌, ◌++◌, inl, inr, ℕ, Bool, true, false, List, Option, Some, Result, Ok, Err, IfSome, refl, sym, ap, ◌∙◌, subst}
 use Rattle.grain_host.specs.Tables.{table_law}
 use Rattle.grain_host.specs.declared.tables.TableHost.{TableHost}
 use Rattle.grain_program.specs.View.{View}
@@ -9,10 +9,11 @@ use Rattle.grain_global.specs.declared.engines.Engine.{Engine}
 use Rattle.grain_means.specs.Worlds.{Answer, Came, Failed}
 use Rattle.grain_means.specs.Means.{Begin, Finish, Means}
 use Rattle.grain_listing.specs.Reading.{ListingView, reads}
-use Rattle.grain_commands.specs.Replies.{Counts, Replies, no_listing, refused, reported, Answers, no_command, replied, Ended, wrote, source_failed, sink_failed, no_memory, is_run, usage_text, bad_line_text, refusal_text}
-use Rattle.grain_commands.specs.Reports.{report_value, report_fault}
-use Rattle.grain_commands.specs.Runs.{Reported, engine_of, start, status_of, answer_report, report}
+use Rattle.grain_commands.specs.Replies.{Counts, Replies, no_listing, refused, reported, Answers, no_command, replied, Ended, wrote, source_failed, sink_failed, no_memory, is_command, is_run, listing_for, tells_operations, usage_text, bad_line_text, refusal_text}
+use Rattle.grain_commands.specs.Reports.{report_fault}
+use Rattle.grain_commands.specs.Runs.{Reported, answer_text, engine_of, start, status_of, value_text}
 use Rattle.grain_commands.specs.Statuses.{RunEnds, Gives, Completes}
+use Rattle.grain_commands.proofs.Commanding.{no_run}
 use Rattle.grain_streams.specs.Streams.{Rose, added}
 use Rattle.grain_listing.specs.declared.reasons.BadLine.{BadLine}
 
@@ -30,53 +31,52 @@ same_set_up : (said : Result ListingView BadLine) (s t : ListingView) → said �
 same_set_up said s t one other = cc
 
 -- the end that is reported is the end that the program means
-same_report : MeansOne → (s : ListingView) (end : Finish TableHost) (n status : ℕ) (text : List ℕ) →
+same_report : MeansOne → (told : Bool) (s : ListingView) (end : Finish TableHost) (n status : ℕ) (text : List ℕ) →
     Means table_law s.parts (engine_of s.limits s.fast_operators s.strict_properties)
     (start s.scope s.host) end n →
-    Reported s.parts (engine_of s.limits s.fast_operators s.strict_properties)
+    Reported told s.parts (engine_of s.limits s.fast_operators s.strict_properties)
     (start s.scope s.host) status text →
-    (status ≡ status_of end.answer) × (text ≡ report end)
-same_report law s end n status text means told =
+    (status ≡ status_of end.answer) × (text ≡ answer_text told end end.answer)
+same_report law told s end n status text means ends =
     let one = law s.parts (engine_of s.limits s.fast_operators s.strict_properties)
-    (start s.scope s.host) end told.end n told.instructions means told.means in (
-      told.number ∙ ap (λ (x : Finish TableHost). status_of x.answer) (sym one.0),
-      told.written ∙
-          ap report (sym one.0),
+    (start s.scope s.host) end ends.end n ends.instructions means ends.means in (
+      ends.number ∙ ap (λ (x : Finish TableHost). status_of x.answer) (sym one.0),
+      ends.written ∙ ap (λ (x : Finish TableHost). answer_text told x x.answer) (sym one.0),
     )
 
-same_end : MeansOne → (said : Result ListingView BadLine) (s : ListingView) (end : Finish TableHost)
+same_end : MeansOne → (told : Bool) (said : Result ListingView BadLine) (s : ListingView) (end : Finish TableHost)
     (n status : ℕ)
     (text : List ℕ) → said ≡ Ok s → IsProgram s.parts →
     Means table_law s.parts (engine_of s.limits s.fast_operators s.strict_properties)
     (start s.scope s.host) end n →
-    Replies said status text →
-    (status ≡ status_of end.answer) × (text ≡ report end)
-same_end law said s end n status text is valid means (no_listing e) = absurd cc
-same_end law said s end n status text is valid means (refused {s = t} e invalid first) =
+    Replies told said status text →
+    (status ≡ status_of end.answer) × (text ≡ answer_text told end end.answer)
+same_end law told said s end n status text is valid means (no_listing e) = absurd cc
+same_end law told said s end n status text is valid means (refused {s = t} e invalid first) =
     absurd (invalid (subst (λ (x : ListingView). IsProgram x.parts) (same_set_up said t s e is) valid))
-same_end law said s end n status text is valid means (reported {s = t} e v h) =
-    same_report law s end n status text means
-    (subst (λ (x : ListingView). Reported x.parts (engine_of x.limits x.fast_operators x.strict_properties)
+same_end law told said s end n status text is valid means (reported {s = t} e v h) =
+    same_report law told s end n status text means
+    (subst (λ (x : ListingView). Reported told x.parts (engine_of x.limits x.fast_operators x.strict_properties)
     (start x.scope x.host) status text)
     (same_set_up said s t is e) h)
 
-same_reason : (said : Result ListingView BadLine) (bad : BadLine) (status : ℕ) (text : List ℕ) →
-    said ≡ Err bad → Replies said status text → (status ≡ 3) × (text ≡ bad_line_text bad)
-same_reason said bad status text is (no_listing {bad = r} e) =
+same_reason : (told : Bool) (said : Result ListingView BadLine) (bad : BadLine) (status : ℕ) (text : List ℕ) →
+    said ≡ Err bad → Replies told said status text → (status ≡ 3) × (text ≡ bad_line_text bad)
+same_reason told said bad status text is (no_listing {bad = r} e) =
     let one : r ≡ bad = cc in
     (refl, ap bad_line_text one)
-same_reason said bad status text is (refused e invalid first) = absurd cc
-same_reason said bad status text is (reported e v h) = absurd cc
+same_reason told said bad status text is (refused e invalid first) = absurd cc
+same_reason told said bad status text is (reported e v h) = absurd cc
 
-same_refusal : RefusedOnce → (said : Result ListingView BadLine) (s : ListingView) (r : Refusal) (status : ℕ)
+same_refusal : RefusedOnce → (told : Bool) (said : Result ListingView BadLine) (s : ListingView) (r : Refusal) (status : ℕ)
     (text : List ℕ) → said ≡ Ok s → (IsProgram s.parts → ⊥) → IsRefusal s.parts r →
-    Replies said status text → (status ≡ 4) × (text ≡ refusal_text r)
-same_refusal law said s r status text is invalid first (no_listing e) = absurd cc
-same_refusal law said s r status text is invalid first (refused {s = t} {r = q} e other h) =
+    Replies told said status text → (status ≡ 4) × (text ≡ refusal_text r)
+same_refusal law told said s r status text is invalid first (no_listing e) = absurd cc
+same_refusal law told said s r status text is invalid first (refused {s = t} {r = q} e other h) =
     let same : IsRefusal s.parts q = subst (λ (x : ListingView). IsRefusal x.parts q)
     (same_set_up said s t is e) h in
     (refl, ap refusal_text (law s.parts q r same first))
-same_refusal law said s r status text is invalid first (reported {s = t} e v h) =
+same_refusal law told said s r status text is invalid first (reported {s = t} e v h) =
     absurd (invalid (subst (λ (x : ListingView). IsProgram x.parts) (same_set_up said s t is e) v))
 
 -- each answer has this status and this text
@@ -107,44 +107,46 @@ said_of : (input : Option (List ℕ)) (bytes : List ℕ) (said wanted : Result L
 said_of input bytes said wanted told is h = sym
     (subst (λ (o : Option (List ℕ)). IfSome o (λ b. reads b ≡ said)) told h) ∙ is
 
--- an answer to `run` is a reply to what the bytes say
+-- an answer to a command is a reply to what the bytes say
 only_reply : (words : List (List ℕ)) (input : Option (List ℕ)) (bytes : List ℕ)
-    (wanted : Result ListingView BadLine) (due : ℕ) (text : List ℕ) → is_run words ≡ true →
-    input ≡ Some bytes →
+    (wanted : Result ListingView BadLine) (due : ℕ) (text : List ℕ) → is_command words ≡ true →
+    listing_for words input ≡ Some bytes →
     reads bytes ≡ wanted → ((said : Result ListingView BadLine) (n : ℕ) (t : List ℕ) → said ≡ wanted →
-    Replies said n t → (n ≡ due) × (t ≡ text)) → OnlyAnswer words input due text
+    Replies (tells_operations words) said n t → (n ≡ due) × (t ≡ text)) → OnlyAnswer words input due text
 only_reply words input bytes wanted due text command told is only status t (no_command none) =
     absurd cc
 only_reply words input bytes wanted due text command told is only status t
     (replied {said} is_command h reply) =
-    only said status t (said_of input bytes said wanted told is h) reply
+    only said status t (said_of (listing_for words input) bytes said wanted told is h) reply
 
-only_usage : (words : List (List ℕ)) (input : Option (List ℕ)) → is_run words ≡ false →
+only_usage : (words : List (List ℕ)) (input : Option (List ℕ)) → is_command words ≡ false →
     OnlyAnswer words input 2 usage_text
 only_usage words input none status text (no_command other) = (refl, refl)
 only_usage words input none status text (replied is_command h reply) = absurd cc
 
 only_end : MeansOne → (words : List (List ℕ)) (input : Option (List ℕ)) (bytes : List ℕ)
-    (end : Finish TableHost) → is_run words ≡ true → input ≡ Some bytes → RunEnds bytes end →
-    OnlyAnswer words input (status_of end.answer) (report end)
+    (end : Finish TableHost) → is_command words ≡ true → listing_for words input ≡ Some bytes →
+    RunEnds bytes end →
+    OnlyAnswer words input (status_of end.answer) (answer_text (tells_operations words) end end.answer)
 only_end law words input bytes end command told run =
     only_reply words input bytes (Ok run.set_up) (status_of end.answer)
-    (report end) command told run.said
-    (λ said n t is reply. same_end law said run.set_up end run.instructions n t is run.valid
+    (answer_text (tells_operations words) end end.answer) command told run.said
+    (λ said n t is reply. same_end law (tells_operations words) said run.set_up end run.instructions n t is run.valid
     run.means reply)
 
 -- the answer alone is the end's, by its trace
-end_at : (end : Finish TableHost) (a : Answer) → end.answer ≡ a →
+end_at : (told : Bool) (end : Finish TableHost) (a : Answer) → end.answer ≡ a →
     (status_of end.answer ≡ status_of a) ×
-    (report end ≡ end.host.printed ++ answer_report end.cells a end.trace)
-end_at end a is = (ap status_of is, ap (λ x. end.host.printed ++ answer_report end.cells x end.trace) is)
+    (answer_text told end end.answer ≡ answer_text told end a)
+end_at told end a is = (ap status_of is, ap (answer_text told end) is)
 
 only_at : (words : List (List ℕ)) (input : Option (List ℕ)) (end : Finish TableHost) (a : Answer) →
-    end.answer ≡ a → OnlyAnswer words input (status_of end.answer) (report end) →
-    OnlyAnswer words input (status_of a) (end.host.printed ++ answer_report end.cells a end.trace)
+    end.answer ≡ a →
+    OnlyAnswer words input (status_of end.answer) (answer_text (tells_operations words) end end.answer) →
+    OnlyAnswer words input (status_of a) (answer_text (tells_operations words) end a)
 only_at words input end a is only status text answers =
     let one = only status text answers in
-    let at = end_at end a is in
+    let at = end_at (tells_operations words) end a is in
     (one.0 ∙ at.0, one.1 ∙ at.1)
 
 pub completed : MeansOne → RefusedOnce → (words : List (List ℕ))
@@ -152,7 +154,7 @@ pub completed : MeansOne → RefusedOnce → (words : List (List ℕ))
     Ended words input before now counts status → Completes words input before now counts status
 completed means refuses words input before now counts status ended = record {
   value = λ command none bytes told v end is run.
-      given words input before now counts status 0 (end.host.printed ++ report_value end.cells v)
+      given words input before now counts status 0 (value_text (tells_operations words) end v)
       (only_at words input end (Came v) is
       (only_end means words input bytes end command told run))
       (λ _. none.source) none.sink ended;
@@ -162,16 +164,16 @@ completed means refuses words input before now counts status ended = record {
       (only_end means words input bytes end command told run))
       (λ _. none.source) none.sink ended;
   usage = λ none sink. given words input before now counts status 2 usage_text
-      (only_usage words input none) (λ command rose. absurd cc) sink ended;
+      (only_usage words input none) (λ command rose. absurd (no_run words none command)) sink ended;
   no_listing = λ command none bytes told bad is.
       given words input before now counts status 3 (bad_line_text bad)
       (only_reply words input bytes (Err bad) 3 (bad_line_text bad) command told is
-      (λ said n t e reply. same_reason said bad n t e reply))
+      (λ said n t e reply. same_reason (tells_operations words) said bad n t e reply))
       (λ _. none.source) none.sink ended;
   refused = λ command none bytes told refusal h.
       given words input before now counts status 4 (refusal_text refusal)
       (only_reply words input bytes (Ok h.set_up) 4 (refusal_text refusal) command told h.said
-      (λ said n t e reply. same_refusal refuses said h.set_up refusal n t e h.invalid h.first
+      (λ said n t e reply. same_refusal refuses (tells_operations words) said h.set_up refusal n t e h.invalid h.first
       reply))
       (λ _. none.source) none.sink ended;
 }

@@ -18,8 +18,8 @@ use Rattle.grain_vm.specs.Machines.{begin}
 use Rattle.grain_vm.specs.VmView.{VmView}
 use Rattle.grain_means.specs.Worlds.{Answer, Came, Failed}
 use Rattle.grain_means.specs.Means.{Begin, Finish, Means, Evaluates}
-use Rattle.grain_commands.specs.Reports.{report_value, report_fault}
-use Rattle.grain_commands.specs.Runs.{Reported, engine_of, start}
+use Rattle.grain_commands.specs.Reports.{report_fault}
+use Rattle.grain_commands.specs.Runs.{Reported, engine_of, start, value_text}
 use Rattle.grain_commands.specs.declared.replies.Reply.{Reply}
 
 -- a fault other than want of memory is the end that the program means
@@ -37,9 +37,9 @@ no_value : (v : Dynamic) → Came v ≢ Failed NoMemory
 no_value v e = cc
 
 -- an end, by its answer
-abbrev pub EndsAs : (Answer → Finish TableHost) → List ℕ → List Fault → List Cell → Type 0
-EndsAs finish printed trace cells = (a : Answer) → ((finish a).answer ≡ a) ×
-    ((finish a).trace ≡ trace) × ((finish a).host.printed ≡ printed) × ((finish a).cells ≡ cells)
+abbrev pub EndsAs : (Answer → Finish TableHost) → List ℕ → List Fault → Type 0
+EndsAs finish printed trace = (a : Answer) → ((finish a).answer ≡ a) ×
+    ((finish a).trace ≡ trace) × ((finish a).host.printed ≡ printed)
 
 -- an engine whose flags are written, where natives may call functions back
 pub engine_is : (e : Engine) (l : Limits) (fast strict : Bool) → e.limits ≡ l →
@@ -55,41 +55,38 @@ begin_is scope cells host m e none fresh =
     ap (λ (x : List Cell). begin scope x host m.global) none ∙
     ap (λ (x : VmView). begin scope [] host x.global) fresh
 
-pub value_told : (p : View) (under : Engine) (first : Begin TableHost) (v : Dynamic) (e : Engine)
-    (b : Begin TableHost)
-    (finish : Answer → Finish TableHost) (printed : List ℕ) (trace : List Fault) (cells : List Cell) (ran : ℕ)
-    (r : Result Reply OutOfMemory) →
-    e ≡ under → b ≡ first →
-    EndsAs finish printed trace cells → Evaluates table_law p e b (Ok v) finish ran →
+pub value_told : (told : Bool) (p : View) (under : Engine) (first : Begin TableHost) (v : Dynamic)
+    (e : Engine) (b : Begin TableHost) (finish : Answer → Finish TableHost) (ran : ℕ)
+    (r : Result Reply OutOfMemory) → e ≡ under → b ≡ first → (finish (Came v)).answer ≡ Came v →
+    Evaluates table_law p e b (Ok v) finish ran →
     IfOk r (λ x. x.status ≡ 0) →
-    IfOk r (λ x. x.text ≡ printed ++ report_value cells v) →
-    IfOk r (λ x. Reported p under first x.status x.text)
-value_told p under first v e b finish printed trace cells ran (Err m) engine begun ends h status text = tt
-value_told p under first v e b finish printed trace cells ran (Ok x) engine begun ends h status text =
-    let is = ends (Came v) in
+    IfOk r (λ x. x.text ≡ value_text told (finish (Came v)) v) →
+    IfOk r (λ x. Reported told p under first x.status x.text)
+value_told told p under first v e b finish ran (Err m) engine begun is h status text = tt
+value_told told p under first v e b finish ran (Ok x) engine begun is h status text =
     record {
       end = finish (Came v);
       instructions = ran;
       means = rw (engine, begun) at h;
       number =
-          rw is.0 status;
-      written = rw (is.0, is.2, is.3) text;
-      memory = rw is.0 (no_value v);
+          rw is status;
+      written = rw is text;
+      memory = rw is (no_value v);
     }
 
-pub fault_told : (p : View) (under : Engine) (first : Begin TableHost) (f : EvalAltResult)
+pub fault_told : (told : Bool) (p : View) (under : Engine) (first : Begin TableHost) (f : EvalAltResult)
     (e : Engine)
     (b : Begin TableHost) (finish : Answer → Finish TableHost) (printed : List ℕ)
-    (trace : List Fault) (cells : List Cell) (ran : ℕ)
+    (trace : List Fault) (ran : ℕ)
     (r : Result Reply OutOfMemory) → e ≡ under → b ≡ first →
-    EndsAs finish printed trace cells → Evaluates table_law p e b (Err f) finish ran →
+    EndsAs finish printed trace → Evaluates table_law p e b (Err f) finish ran →
     IfOk r (λ x. x.status ≡ 1) →
     IfOk r (λ x. x.text ≡ printed ++ report_fault (problem_of f) trace) →
     IfOk r (λ x. f ≢ faults.Memory) →
-    IfOk r (λ x. Reported p under first x.status x.text)
-fault_told p under first f e b finish printed trace cells ran (Err m) engine begun ends h status text
+    IfOk r (λ x. Reported told p under first x.status x.text)
+fault_told told p under first f e b finish printed trace ran (Err m) engine begun ends h status text
     other = tt
-fault_told p under first f e b finish printed trace cells ran (Ok x) engine begun ends h status text
+fault_told told p under first f e b finish printed trace ran (Ok x) engine begun ends h status text
     other =
     let is = ends (Failed (problem_of f)) in
     let means = meant p e b f finish ran other h in

@@ -1,5 +1,5 @@
 -- What is said of each status gives the headline.
-use Rattle.std.proofs.Common.{◌≡◌, ◌≤◌, ◌++◌, ◌∙◌, ℕ, zero, suc, true, List, Option, Some, Ok, Err, IfSome, sym, ap, subst, refl, arith}
+use Rattle.std.proofs.Common.{◌≡◌, ◌≤◌, ◌++◌, ◌∙◌, ℕ, zero, suc, Bool, true, List, Option, Some, Ok, Err, IfSome, sym, ap, subst, refl, arith}
 use Rattle.grain_host.specs.declared.tables.TableHost.{TableHost}
 use Rattle.grain_program.specs.Typing.{IsProgram}
 use Rattle.grain_program.specs.declared.verifier.refusals.Refusal.{Refusal}
@@ -9,8 +9,9 @@ use Rattle.grain_listing.specs.Reading.{ListingView, reads}
 use Rattle.grain_listing.specs.declared.reasons.BadLine.{BadLine}
 use Rattle.grain_streams.specs.Streams.{added}
 use Rattle.grain_commands.specs.Headline.{CoreListing, CoreEnds, PrintsCoreEnd}
-use Rattle.grain_commands.specs.Replies.{Counts, is_run}
-use Rattle.grain_commands.specs.Runs.{answer_report, report, status_of}
+use Rattle.grain_commands.specs.Replies.{Counts, is_run, listing_for}
+use Rattle.grain_commands.specs.Runs.{answer_report, report, status_of, value_text}
+use Rattle.grain_commands.proofs.Commanding.{held, not_told, run_commands, to_source}
 use Rattle.grain_commands.specs.Statuses.{RunEnds, IsRefused, Says, Beside, Gives, NoneRose, Completes}
 
 -- a listing says one thing
@@ -54,6 +55,10 @@ module _ (words : List (List ℕ)) (input before now : Option (List ℕ)) (bytes
   Told status text = (end : Finish TableHost) × CoreEnds listing.set_up end ×
       (status ≡ status_of end.answer) × (text ≡ report end)
 
+  -- what is run is what the source holds
+  of_held : (P : List ℕ → Type 0) → IfSome (listing_for words input) P → IfSome input P
+  of_held = to_source words input command
+
   told_at : (status : ℕ) (text : List ℕ) (a : Answer) (end : Finish TableHost) → end.answer ≡ a →
       status ≡ status_of a → IfSome input (λ b. RunEnds b end) →
       text ≡ end.host.printed ++ answer_report end.cells a end.trace → Told status text
@@ -78,12 +83,20 @@ module _ (words : List (List ℕ)) (input before now : Option (List ℕ)) (bytes
   tells : (status : ℕ) (text : List ℕ) → status ≤ 4 → Says words input status text →
       Told status text
   tells zero text small says =
-      let s = says.value refl in told_at 0 text (Came s.0) s.1 s.2 refl s.3 s.4
+      let s = says.value refl in
+      told_at 0 text (Came s.0) s.1 s.2 refl (of_held (λ b. RunEnds b s.1) s.3)
+      (s.4 ∙ ap (λ b. value_text b s.1 s.0) (not_told words command))
   tells (suc zero) text small says =
-      let s = says.fault refl in told_at 1 text (Failed s.0) s.1 s.2 refl s.3 s.4
-  tells (suc (suc zero)) text small says = let none = (says.usage refl).0 in absurd cc
-  tells (suc (suc (suc zero))) text small says = let s = says.no_listing refl in absurd (no_bad_line s.0 s.1)
-  tells (suc (suc (suc (suc zero)))) text small says = let s = says.refused refl in absurd (no_refusal s.0 s.1)
+      let s = says.fault refl in
+      told_at 1 text (Failed s.0) s.1 s.2 refl (of_held (λ b. RunEnds b s.1) s.3) s.4
+  tells (suc (suc zero)) text small says =
+      let none = (says.usage refl).0 in
+      let some = run_commands words command in absurd cc
+  tells (suc (suc (suc zero))) text small says =
+      let s = says.no_listing refl in
+      absurd (no_bad_line s.0 (of_held (λ b. reads b ≡ Err s.0) s.1))
+  tells (suc (suc (suc (suc zero)))) text small says =
+      let s = says.refused refl in absurd (no_refusal s.0 (of_held (λ b. IsRefused b s.0) s.1))
   tells (suc (suc (suc (suc (suc n))))) text small says = absurd (omega arith)
 
   printed : (status : ℕ) (text : List ℕ) → Told status text → now ≡ added text before →
@@ -134,7 +147,10 @@ prints_core_end words input before now counts status beside completes = record {
       Gives (status_of end.answer) (report end) before now status
   by_answer command none bytes told end run (Came v) is =
       given_at end (Came v) before now status is
-      (completes.value command none bytes told v end is run)
+      (subst (λ (b : Bool). Gives 0 (value_text b end v) before now status) (not_told words command)
+      (completes.value (run_commands words command) none bytes (held words input command ∙ told) v end is
+      run))
   by_answer command none bytes told end run (Failed p) is =
       given_at end (Failed p) before now status is
-      (completes.fault command none bytes told p end is run)
+      (completes.fault (run_commands words command) none bytes (held words input command ∙ told) p end is
+      run)

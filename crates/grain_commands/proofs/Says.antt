@@ -7,9 +7,9 @@ use Rattle.grain_program.specs.declared.verifier.refusals.Refusal.{Refusal}
 use Rattle.grain_means.specs.Worlds.{Answer, Came, Failed}
 use Rattle.grain_means.specs.Means.{Finish}
 use Rattle.grain_listing.specs.Reading.{ListingView, reads}
-use Rattle.grain_commands.specs.Replies.{Counts, Replies, no_listing, refused, reported, Answers, no_command, replied, Ended, wrote, source_failed, sink_failed, no_memory, is_run, usage_text, bad_line_text, refusal_text}
-use Rattle.grain_commands.specs.Reports.{report_value, report_fault}
-use Rattle.grain_commands.specs.Runs.{status_of, answer_report}
+use Rattle.grain_commands.specs.Replies.{Counts, Replies, no_listing, refused, reported, Answers, no_command, replied, Ended, wrote, source_failed, sink_failed, no_memory, is_command, listing_for, tells_operations, usage_text, bad_line_text, refusal_text}
+use Rattle.grain_commands.specs.Reports.{report_fault}
+use Rattle.grain_commands.specs.Runs.{answer_text, status_of, value_text}
 use Rattle.grain_commands.specs.Statuses.{RunEnds, IsRefused, Says, Beside}
 use Rattle.grain_streams.specs.Streams.{added}
 use Rattle.grain_listing.specs.declared.reasons.BadLine.{BadLine}
@@ -20,7 +20,7 @@ where_told : (input : Option (List ℕ)) (P Q : List ℕ → Type 0) →
 where_told None P Q f h = tt
 where_told (Some bytes) P Q f h = f bytes h
 
-usage_says : (words : List (List ℕ)) (input : Option (List ℕ)) → is_run words ≡ false →
+usage_says : (words : List (List ℕ)) (input : Option (List ℕ)) → is_command words ≡ false →
     Says words input 2 usage_text
 usage_says words input none = record {
   known = omega arith;
@@ -34,8 +34,8 @@ usage_says words input none = record {
 
 value_says : (words : List (List ℕ)) (input : Option (List ℕ)) (v : Dynamic)
     (end : Finish TableHost) →
-    is_run words ≡ true → end.answer ≡ Came v → IfSome input (λ bytes. RunEnds bytes end) →
-    Says words input 0 (end.host.printed ++ report_value end.cells v)
+    is_command words ≡ true → end.answer ≡ Came v → IfSome (listing_for words input) (λ bytes. RunEnds bytes end) →
+    Says words input 0 (value_text (tells_operations words) end v)
 value_says words input v end command is run = record {
   known = omega arith;
   no_command = λ e. absurd cc;
@@ -48,7 +48,7 @@ value_says words input v end command is run = record {
 
 fault_says : (words : List (List ℕ)) (input : Option (List ℕ)) (p : Problem)
     (end : Finish TableHost) →
-    is_run words ≡ true → end.answer ≡ Failed p → IfSome input (λ bytes. RunEnds bytes end) →
+    is_command words ≡ true → end.answer ≡ Failed p → IfSome (listing_for words input) (λ bytes. RunEnds bytes end) →
     Says words input 1 (end.host.printed ++ report_fault p end.trace)
 fault_says words input p end command is run = record {
   known = omega arith;
@@ -61,7 +61,7 @@ fault_says words input p end command is run = record {
 }
 
 reason_says : (words : List (List ℕ)) (input : Option (List ℕ)) (bad : BadLine) →
-    is_run words ≡ true → IfSome input (λ bytes. reads bytes ≡ Err bad) →
+    is_command words ≡ true → IfSome (listing_for words input) (λ bytes. reads bytes ≡ Err bad) →
     Says words input 3 (bad_line_text bad)
 reason_says words input bad command said = record {
   known = omega arith;
@@ -74,7 +74,7 @@ reason_says words input bad command said = record {
 }
 
 refusal_says : (words : List (List ℕ)) (input : Option (List ℕ)) (r : Refusal) →
-    is_run words ≡ true → IfSome input (λ bytes. IsRefused bytes r) →
+    is_command words ≡ true → IfSome (listing_for words input) (λ bytes. IsRefused bytes r) →
     Says words input 4 (refusal_text r)
 refusal_says words input r command said = record {
   known = omega arith;
@@ -88,8 +88,8 @@ refusal_says words input r command said = record {
 
 -- an end's status and report say the end
 end_says : (words : List (List ℕ)) (input : Option (List ℕ)) (end : Finish TableHost) (a : Answer) →
-    is_run words ≡ true → end.answer ≡ a → IfSome input (λ bytes. RunEnds bytes end) →
-    Says words input (status_of a) (end.host.printed ++ answer_report end.cells a end.trace)
+    is_command words ≡ true → end.answer ≡ a → IfSome (listing_for words input) (λ bytes. RunEnds bytes end) →
+    Says words input (status_of a) (answer_text (tells_operations words) end a)
 end_says words input end (Came v) command is run = value_says words input v end command is run
 end_says words input end (Failed p) command is run = fault_says words input p end command is run
 
@@ -102,19 +102,19 @@ says_as words input status due text wanted number written says =
     (subst (λ (t : List ℕ). Says words input due t) (sym written) says)
 
 reply_says : (words : List (List ℕ)) (input : Option (List ℕ)) (said : Result ListingView BadLine)
-    (status : ℕ) (text : List ℕ) → is_run words ≡ true →
-    IfSome input (λ bytes. reads bytes ≡ said) →
-    Replies said status text → Says words input status text
+    (status : ℕ) (text : List ℕ) → is_command words ≡ true →
+    IfSome (listing_for words input) (λ bytes. reads bytes ≡ said) →
+    Replies (tells_operations words) said status text → Says words input status text
 reply_says words input said status text command told (no_listing {bad = bad} e) =
     reason_says words input bad command
-    (where_told input (λ bytes. reads bytes ≡ said) (λ bytes. reads bytes ≡ Err bad)
+    (where_told (listing_for words input) (λ bytes. reads bytes ≡ said) (λ bytes. reads bytes ≡ Err bad)
     (λ bytes h. h ∙ e) told)
 reply_says words input said status text command told (refused {s} {r} e invalid first) =
     refusal_says words input r command
-    (where_told input (λ bytes. reads bytes ≡ said) (λ bytes. IsRefused bytes r)
+    (where_told (listing_for words input) (λ bytes. reads bytes ≡ said) (λ bytes. IsRefused bytes r)
     (λ bytes h. record { set_up = s; said = h ∙ e; invalid = invalid; first = first }) told)
 reply_says words input said status text command told (reported {s} e valid h) =
-    let run = where_told input (λ bytes. reads bytes ≡ said) (λ bytes. RunEnds bytes h.end)
+    let run = where_told (listing_for words input) (λ bytes. reads bytes ≡ said) (λ bytes. RunEnds bytes h.end)
     (λ bytes is. record {
       set_up = s;
       said = is ∙ e;
@@ -123,7 +123,7 @@ reply_says words input said status text command told (reported {s} e valid h) =
       means = h.means;
     }) told in
     says_as words input status (status_of h.end.answer) text
-    (h.end.host.printed ++ answer_report h.end.cells h.end.answer h.end.trace) h.number h.written
+    (answer_text (tells_operations words) h.end h.end.answer) h.number h.written
     (end_says words input h.end h.end.answer command refl run)
 
 answer_says : (words : List (List ℕ)) (input : Option (List ℕ)) (status : ℕ) (text : List ℕ) →

@@ -19,9 +19,11 @@ within bytes h = grind (arith, nat_tests)
 fits : (bytes : List ℕ) (s : ListingView) → reads bytes ≡ Ok s → length bytes ≤ 16777216
 fits bytes s h = within bytes (no_error (nat_lt most_bytes (length bytes)) _ _ s h)
 
-pub read_through : (bytes : List ℕ) (left : Option (List ℕ)) (status : ℕ) (text : List ℕ) →
-    (length bytes ≤ 16777216 → IsSpent left) → Replies (reads bytes) status text →
-    IsReadThrough status left
-read_through bytes left status text spent (no_listing e) = λ h. absurd (omega arith)
-read_through bytes left status text spent (refused e invalid first) = λ h. absurd (omega arith)
-read_through bytes left status text spent (reported {s} e valid told) = λ h. spent (fits bytes s e)
+pub read_through : (words : List (List ℕ)) (told : Bool) (bytes : List ℕ) (left : Option (List ℕ))
+    (status : ℕ) (text : List ℕ) → (length bytes ≤ 16777216 → IsSpent left) →
+    Replies told (reads bytes) status text → IsReadThrough words status left
+read_through words told bytes left status text spent (no_listing e) = λ run h. absurd (omega arith)
+read_through words told bytes left status text spent (refused e invalid first) =
+    λ run h. absurd (omega arith)
+read_through words told bytes left status text spent (reported {s} e valid ends) =
+    λ run h. spent (fits bytes s e)

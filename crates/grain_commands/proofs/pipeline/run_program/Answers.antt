@@ -25,14 +25,12 @@ returns-in-Ok g c =
     c.in_ok-vm.ensures in
     let run = c.in-Ok.ensures.evaluates in
     let text = rw c.printed.ensures at c.value_reply.ensures.text in
-    value_told c.args.program.now under first c.in-Ok.value (with_callbacks true c.in_ok-vm.vm.engine)
+    value_told false c.args.program.now under first c.in-Ok.value
+    (with_callbacks true c.in_ok-vm.vm.engine)
     (begin c.args.scope c.new-cells.result c.args.host c.in_ok-vm.vm.global)
     (finish c.eval_with_callbacks.new.self.trace c.eval_with_callbacks.new.scope
     c.eval_with_callbacks.new.cells c.eval_with_callbacks.new.host
-    c.eval_with_callbacks.new.self.global) c.eval_with_callbacks.new.host.printed
-    c.eval_with_callbacks.new.self.trace c.eval_with_callbacks.new.cells run.0
-    c.value_reply.result engine begun
-    (λ a. (refl, refl, refl, refl))
+    c.eval_with_callbacks.new.self.global) run.0 c.value_reply.result engine begun refl
     run.1.0 c.value_reply.ensures.status text
 
 pub returns : goal.returns
@@ -52,12 +50,13 @@ returns g c =
     c.in_ok-vm.ensures in
     let run = c.in-Err.ensures.evaluates in
     let text = rw (c.fault_trace.ensures, c.printed-in-Err.ensures) at c.fault_reply.ensures.text in
-    fault_told c.args.program.now under first c.in-Err.fault (with_callbacks true c.in_ok-vm.vm.engine)
+    fault_told c.args.told c.args.program.now under first c.in-Err.fault
+    (with_callbacks true c.in_ok-vm.vm.engine)
     (begin c.args.scope c.new-cells.result c.args.host c.in_ok-vm.vm.global)
     (finish c.eval_with_callbacks.new.self.trace c.eval_with_callbacks.new.scope
     c.eval_with_callbacks.new.cells c.eval_with_callbacks.new.host
     c.eval_with_callbacks.new.self.global) c.eval_with_callbacks.new.host.printed
-    c.eval_with_callbacks.new.self.trace c.eval_with_callbacks.new.cells run.0
+    c.eval_with_callbacks.new.self.trace run.0
     c.fault_reply.result engine begun
-    (λ a. (refl, refl, refl, refl))
+    (λ a. (refl, refl, refl))
     run.1.0 c.fault_reply.ensures.status text c.fault_reply.ensures.memory

@@ -6,7 +6,7 @@ use Rattle.grain_commands.proofs.pipeline.run_set_up.Goals as goal
 
 pub returns-in-Err : goal.returns-in-Err
 returns-in-Err g c =
-    answers_refusal (set_up_of c.args.setup) c.in-Err.refusal c.refused.result
+    answers_refusal c.args.told (set_up_of c.args.setup) c.in-Err.refusal c.refused.result
     c.refused.ensures.status c.refused.ensures.text c.refused.ensures.rule
     c.in-Err.ensures.complete c.in-Err.ensures.first
 
@@ -14,4 +14,4 @@ pub returns-in-Ok : goal.returns-in-Ok
 returns-in-Ok g c =
     let program : c.in-Ok.program ≡ view_of c.args.setup.parts = search rules in
     let told = rw program at c.run_program.ensures in
-    answers_end (set_up_of c.args.setup) c.run_program.result c.in-Ok.ensures.sound told
+    answers_end c.args.told (set_up_of c.args.setup) c.run_program.result c.in-Ok.ensures.sound told
