@@ -28,6 +28,7 @@ pub mod Reading
 pub mod Examples
 pub mod ChainExamples
 pub mod LoopExamples
+pub mod LiteralExamples
 pub mod Explaining
 pub mod Rows
 pub mod Touching
