@@ -6,4 +6,5 @@ pub mod Belonging
 pub mod Depths
 pub mod Items
 pub mod Spreading
+pub mod Taking
 pub mod Regaining

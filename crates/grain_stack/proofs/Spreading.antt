@@ -57,7 +57,7 @@ spread_high true b d xs ys vs lt is = omega (
 spread_high false b d xs ys vs lt is = omega (arith, lt, ap length is)
 
 -- the arguments are the frame's own
-arguments_own : (b d : ℕ) (xs : List Held) → b + d ≤ length xs →
+pub arguments_own : (b d : ℕ) (xs : List Held) → b + d ≤ length xs →
     arguments d xs ≡ arguments d (drop b xs)
 arguments_own b d xs le =
     let at : length xs - d ≡ b + (length (drop b xs) - d) = omega (arith, le, length-drop b xs) in
