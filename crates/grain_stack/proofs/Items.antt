@@ -206,7 +206,6 @@ cell_first values n d is = rw (first_at values n (n + 1) (tree d) is refl) (sym 
 -- an item that is no value of a list is no cell
 pub plain_first : (l : Left) → ((values : List Tree) (n : ℕ) → ¬ (l ≡ left.Values values n)) →
     None ≡ first_cell (items_left l)
-unfolding integers_from
 plain_first (left.Values values n) other = absurd (other values n refl)
 plain_first (left.Bytes bytes n) other = bytes_first (drop n bytes) where
   bytes_first : (bs : List ℕ) → None ≡ first_cell (map (λ b. integer (pos b)) bs)
