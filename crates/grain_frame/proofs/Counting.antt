@@ -122,7 +122,8 @@ gave_first (e ∷ es) c d item count is gives counted =
 module _ {H : Type 0} (law : Law H) (p : View) (engine : Engine) (f : Activation) (s : Run H)
     (n : StepsView) (host : H) where
   -- where the next item comes, and where it comes that there is none
-  pub comes_with_item : (target next height many : ℕ) → 0 < length s.stacks.cursors → height ≡ length s.stacks.operands + 1 →
+  pub comes_with_item : (target next height many : ℕ) → 0 < length s.stacks.cursors →
+      height ≡ length s.stacks.operands + 1 →
       many ≡ length s.stacks.cursors → In (arrival next (shape height many
       (tries_in s.stacks.handlers))) (arrivals_of p (op.IterNext target) next s)
   comes_with_item target next height many there high less =
