@@ -31,7 +31,7 @@ use std::sync::ledger::Ledger;
 
 /// Why keys and values are no pairs of a map.
 #[derive(Clone, Copy, Debug, PartialEq, Eq)]
-enum Unpaired {
+enum Misfit {
     /// A cell comes first that is lent.
     Lent,
     /// The key at this index comes first, which is no text.
@@ -39,19 +39,19 @@ enum Unpaired {
 }
 
 // Why these, `count` keys each before its value, are no pairs of a map, if they are none.
-fn unpaired(cells: &Store, held: &[Held], count: usize) -> Option<Unpaired>
+fn first_misfit(cells: &Store, held: &[Held], count: usize) -> Option<Misfit>
     requires { length held.now ≡ count + count }
     ensures { (es : Entries) → PairsRead cells.now held.now es result }
 {
     'pairs: for pair in 0..count {
         let key = pair + pair;
         match held[key].value.flat(cells) {
-            None => return Some(Unpaired::Lent),
+            None => return Some(Misfit::Lent),
             Some(Dynamic::Text(_)) => {}
-            Some(_) => return Some(Unpaired::Key(key)),
+            Some(_) => return Some(Misfit::Key(key)),
         }
         if held[key + 1].value.flat(cells).is_none() {
-            return Some(Unpaired::Lent);
+            return Some(Misfit::Lent);
         }
     }
     None
@@ -162,10 +162,10 @@ impl<H: Host> Run<H> {
                 return Ok(self.malformed(context, steps, frame.address, kind));
             }
         }
-        match self.unpaired(count) {
+        match self.first_misfit(count) {
             None => {}
-            Some(Unpaired::Lent) => return self.data_race(context, steps, frame.address, ""),
-            Some(Unpaired::Key(index)) => {
+            Some(Misfit::Lent) => return self.data_race(context, steps, frame.address, ""),
+            Some(Misfit::Key(index)) => {
                 return self.key_not_text(context, steps, frame.address, count, index);
             }
         }
@@ -174,13 +174,13 @@ impl<H: Host> Run<H> {
     }
 
     // Why the last operands, `count` keys each before its value, are no pairs of a map.
-    fn unpaired(&self, count: usize) -> Option<Unpaired>
+    fn first_misfit(&self, count: usize) -> Option<Misfit>
         requires { count + count ≤ length self.now.stacks.operands }
         ensures { (es : Entries) → PairsRead self.now.cells
             (arguments (count + count) self.now.stacks.operands) es result }
     {
         let operands = self.stacks.frame_operands();
-        unpaired(
+        first_misfit(
             &self.cells,
             &operands[operands.len() - (count + count)..],
             count,

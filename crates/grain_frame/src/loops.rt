@@ -309,7 +309,7 @@ impl<H: Host> Run<H> {
     }
 
     // A value as it is read: of a cell, which is there and not lent, a copy of what it holds.
-    fn flat_value(&self, value: Dynamic) -> Result<Dynamic, OutOfMemory>
+    pub(crate) fn flat_value(&self, value: Dynamic) -> Result<Dynamic, OutOfMemory>
         requires { is_some (flat self.now.cells value) ≡ true }
         ensures { IfOk result (λ v. flat self.now.cells value ≡ Some v) }
     {
