@@ -23,3 +23,6 @@ mod Counting
 mod Storing
 mod Leaving
 mod Advancing
+mod Totalled
+mod Gathering
+mod Appending

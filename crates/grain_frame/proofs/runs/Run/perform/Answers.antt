@@ -50,6 +50,10 @@ pub unreachable-requires-in-Chain : goal.unreachable-requires-in-Chain
 unreachable-requires-in-Chain g c =
     (rw c.in-Chain.is at c.requires.runs_no_method).0 c.in-Chain.field-0 refl
 
+pub unreachable-requires-in-InterpolateAppend : goal.unreachable-requires-in-InterpolateAppend
+unreachable-requires-in-InterpolateAppend g c =
+    (rw c.in-InterpolateAppend.is at c.requires.asks_nothing).3 refl
+
 pub returns-in-LoadConst : goal.returns-in-LoadConst
 returns-in-LoadConst g c = record {
   stepped = arm c.in-LoadConst.is refl refl c.requires.stands c.requires.runs
@@ -367,4 +371,47 @@ pub returns-in-IterNextIndexed : goal.returns-in-IterNextIndexed
 returns-in-IterNextIndexed g c = record {
   stepped = arm_loop c.in-IterNextIndexed.is c.requires.stands c.requires.runs
       c.iter_next-in-IterNextIndexed.ensures.implements;
+}
+
+pub returns-in-MakeFnPtr : goal.returns-in-MakeFnPtr
+returns-in-MakeFnPtr g c = record {
+  stepped = arm c.in-MakeFnPtr.is refl refl c.requires.stands c.requires.runs
+      (c.make_fn_ptr.ensures.performs c.args.host.now);
+}
+
+pub returns-in-MakeArray : goal.returns-in-MakeArray
+returns-in-MakeArray g c = record {
+  stepped = arm c.in-MakeArray.is refl refl c.requires.stands c.requires.runs
+      (c.make_array.ensures.performs c.args.host.now);
+}
+
+pub returns-in-MakeMap : goal.returns-in-MakeMap
+returns-in-MakeMap g c = record {
+  stepped = arm c.in-MakeMap.is refl refl c.requires.stands c.requires.runs
+      (c.make_map.ensures.performs c.args.host.now);
+}
+
+pub returns-in-CheckArraySize : goal.returns-in-CheckArraySize
+returns-in-CheckArraySize g c = record {
+  stepped = arm c.in-CheckArraySize.is refl refl c.requires.stands c.requires.runs
+      (c.check_size.ensures.implements c.args.host.now);
+}
+
+pub returns-in-CheckMapSize : goal.returns-in-CheckMapSize
+returns-in-CheckMapSize g c = record {
+  stepped = arm c.in-CheckMapSize.is refl refl c.requires.stands c.requires.runs
+      (c.check_size-in-CheckMapSize.ensures.implements c.args.host.now);
+}
+
+pub returns-in-InterpolateStart : goal.returns-in-InterpolateStart
+returns-in-InterpolateStart g c = record {
+  stepped = arm c.in-InterpolateStart.is refl refl c.requires.stands c.requires.runs
+      (c.interpolate_start.ensures.performs c.args.context.program.now c.args.context.engine.now
+      c.args.host.now);
+}
+
+pub returns-in-InterpolateEnd : goal.returns-in-InterpolateEnd
+returns-in-InterpolateEnd g c = record {
+  stepped = arm c.in-InterpolateEnd.is refl refl c.requires.stands c.requires.runs
+      (c.interpolate_end.ensures.performs c.args.host.now);
 }

@@ -1,0 +1,74 @@
+-- What is appended to a text stops at its first mark where memory is out.
+use Rattle.std.proofs.Common.{◌≡◌, ◌∙◌, ◌+◌, ◌++◌, ◌∷◌, ℕ, List, [], Option, Some, None, Bool, true, false, if◌then◌else◌, length, refl, sym, ap}
+use Rattle.std.specs.Prelude.{codes}
+use Rattle.grain_value.specs.Cells.{flat}
+use Rattle.grain_value.specs.Looking.{text_of}
+use Rattle.grain_value.specs.Operands.{under}
+use Rattle.grain_value.specs.Sizes.{is_over}
+use Rattle.grain_value.specs.Writing.{kind_of, type_name_of}
+use Rattle.grain_value.specs.declared.natives.Native.{Native}
+use Rattle.grain_value.specs.declared.values.Dynamic.{Dynamic}
+use Rattle.grain_value.specs.declared.values.Dynamic.TheVariants as dynamic
+use Rattle.grain_value.specs.declared.values.Held.{Held}
+use Rattle.grain_fault.specs.Classes.{catchable}
+use Rattle.grain_fault.specs.Problems.{Problem, NoMemory, Plain, DataTooLarge}
+use Rattle.grain_host.specs.Law.{native_of}
+use Rattle.grain_means.specs.Worlds.{Act, Frame, Setup, World, is_stop}
+use Rattle.grain_means.specs.Rules.{answer_appended, appended, flat_or_race, leave_by_fault, operand_under, position, pushed, put_behind, raised, segment_read, showing, showing_failed, to_string, type_appended}
+use Rattle.grain_frame.specs.lemmas.Failing.{StopsAtMark, native_stops}
+
+module _ {S : Type 0} (m : Setup S) (f : Frame) (w : World S)
+    (halts : is_stop m.stop w.passed ≡ true) where
+  -- a text goes behind the buffer
+  behind_stops : (o : Option (List ℕ)) (v : Dynamic) (s : List ℕ) (next : ℕ) →
+      put_behind m o v s next f w ≡ leave_by_fault m f NoMemory w
+  behind_stops None v s next = rw halts refl
+  behind_stops (Some b) v s next = at (is_over m.engine.limits.text (length b + length s)) where
+    at : (over : Bool) →
+        (if over then raised m f (Plain (DataTooLarge (codes "Length of string")) (position m f)) w
+        else pushed m f next (under 2 f.operands) (dynamic.Text (b ++ s)) w)
+        ≡ leave_by_fault m f NoMemory w
+    at true = rw halts refl
+    at false = rw halts refl
+
+  pub appended_stops : (s : List ℕ) (next : ℕ) →
+      appended m s next f w ≡ leave_by_fault m f NoMemory w
+  appended_stops s next = at (flat w.cells (operand_under 1 f.operands).value) where
+    at : (o : Option Dynamic) →
+        flat_or_race m o [] f w (λ v. put_behind m (text_of v) v s next f w)
+        ≡ leave_by_fault m f NoMemory w
+    at None = rw halts refl
+    at (Some v) = behind_stops (text_of v) v s next
+
+  pub type_stops : (t : List ℕ) (next : ℕ) →
+      type_appended m t next f w ≡ leave_by_fault m f NoMemory w
+  type_stops t next = rw halts refl
+
+  -- the native failed
+  pub failed_stops : (t : List ℕ) (next : ℕ) → StopsAtMark m f w (showing_failed m t next f)
+  failed_stops t next x = at (catchable x) where
+    at : (b : Bool) → (if b then type_appended m t next f w else raised m f x w)
+        ≡ leave_by_fault m f NoMemory w
+    at true = rw halts refl
+    at false = rw halts refl
+
+  -- the native gave this
+  pub answer_stops : (o : Option Dynamic) (t : List ℕ) (next : ℕ) →
+      answer_appended m o t next f w ≡ leave_by_fault m f NoMemory w
+  answer_stops None t next = type_stops t next
+  answer_stops (Some r) t next = appended_stops _ next
+
+  -- a segment is shown
+  pub showing_stops : (o : Option Native) (v : Dynamic) (h : Held) (next : ℕ) →
+      showing m o v h next f w ≡ leave_by_fault m f NoMemory w
+  showing_stops None v h next = appended_stops _ next
+  showing_stops (Some n) v h next =
+      native_stops m to_string None (h ∷ []) f w
+      (λ r w1. answer_appended m (flat w1.cells r) (type_name_of v) next f w1)
+      (showing_failed m (type_name_of v) next f) halts (failed_stops (type_name_of v) next)
+
+  pub segment_stops : (o : Option (List ℕ)) (v : Dynamic) (h : Held) (next : ℕ) →
+      segment_read m o v h next f w ≡ leave_by_fault m f NoMemory w
+  segment_stops None v h next =
+      showing_stops (native_of m.law w.host to_string (kind_of h.value ∷ [])) v h next
+  segment_stops (Some s) v h next = appended_stops s next
