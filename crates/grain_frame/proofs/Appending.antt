@@ -1,21 +1,34 @@
--- What is appended to a text stops at its first mark where memory is out.
-use Rattle.std.proofs.Common.{◌≡◌, ◌∙◌, ◌+◌, ◌++◌, ◌∷◌, ℕ, List, [], Option, Some, None, Bool, true, false, if◌then◌else◌, length, refl, sym, ap}
+-- What is appended to a text: where it stops if memory is out, and what comes before it.
+use Rattle.std.proofs.Common.{◌≡◌, ◌∙◌, ◌<◌, ◌≤◌, ◌+◌, ◌++◌, ◌∷◌, ℕ, List, [], Option, Some, None, Bool, true, false, if◌then◌else◌, Result, Ok, Err, length, refl, sym, ap, arith}
 use Rattle.std.specs.Prelude.{codes}
 use Rattle.grain_value.specs.Cells.{flat}
 use Rattle.grain_value.specs.Looking.{text_of}
-use Rattle.grain_value.specs.Operands.{under}
+use Rattle.grain_value.specs.Operands.{arguments, top, under}
 use Rattle.grain_value.specs.Sizes.{is_over}
 use Rattle.grain_value.specs.Writing.{kind_of, type_name_of}
+use Rattle.grain_value.specs.declared.memory.OutOfMemory.{OutOfMemory}
 use Rattle.grain_value.specs.declared.natives.Native.{Native}
+use Rattle.grain_value.specs.declared.stores.Cell.{Cell}
 use Rattle.grain_value.specs.declared.values.Dynamic.{Dynamic}
 use Rattle.grain_value.specs.declared.values.Dynamic.TheVariants as dynamic
 use Rattle.grain_value.specs.declared.values.Held.{Held}
 use Rattle.grain_fault.specs.Classes.{catchable}
 use Rattle.grain_fault.specs.Problems.{Problem, NoMemory, Plain, DataTooLarge}
-use Rattle.grain_host.specs.Law.{native_of}
+use Rattle.grain_program.specs.View.{View}
+use Rattle.grain_host.specs.Law.{Law, native_of}
+use Rattle.grain_global.specs.declared.engines.Engine.{Engine}
+use Rattle.grain_global.specs.StepsView.{StepsView}
+use Rattle.grain_stack.specs.Views.{StacksView}
 use Rattle.grain_means.specs.Worlds.{Act, Frame, Setup, World, is_stop}
-use Rattle.grain_means.specs.Rules.{answer_appended, appended, flat_or_race, leave_by_fault, operand_under, position, pushed, put_behind, raised, segment_read, showing, showing_failed, to_string, type_appended}
+use Rattle.grain_means.specs.Rules.{answer_appended, appended, flat_all, flat_or_race, leave_by_fault, operand_under, position, pushed, put_behind, raised, segment_read, showing, showing_failed, to_string, type_appended}
+use Rattle.grain_means.specs.Means.{setup}
+use Rattle.grain_means.specs.lemmas.Stretches.{then_exactly}
+use Rattle.grain_frame.specs.Abstraction.{Implements, frame_in, moment}
+use Rattle.grain_frame.specs.declared.activations.Activation.{Activation}
+use Rattle.grain_frame.specs.declared.runs.Progress.{Progress}
+use Rattle.grain_frame.specs.declared.runs.Run.{Run}
 use Rattle.grain_frame.specs.lemmas.Failing.{StopsAtMark, native_stops}
+use Rattle.grain_frame.proofs.Serving.{kept_on, later_lands}
 
 module _ {S : Type 0} (m : Setup S) (f : Frame) (w : World S)
     (halts : is_stop m.stop w.passed ≡ true) where
@@ -72,3 +85,65 @@ module _ {S : Type 0} (m : Setup S) (f : Frame) (w : World S)
   segment_stops None v h next =
       showing_stops (native_of m.law w.host to_string (kind_of h.value ∷ [])) v h next
   segment_stops (Some s) v h next = appended_stops s next
+
+-- a fault of the native is passed over: its trace is gone, and then the name of a type is appended
+pub type_then : {H : Type 0} (law : Law H) (p : View) (engine : Engine) (f : Activation)
+    (s : Run H) (n : StepsView) (host : H) (t : List ℕ) (next : ℕ) (cut : StacksView)
+    (k : StepsView) (f' : Activation) (s' : Run H) (n' : StepsView)
+    {r : Result Progress OutOfMemory} → cut ≡ record s.stacks { trace = [] } →
+    k ≡ record n { passed = n.passed + 1 } → f.base ≤ length s.scope →
+    Implements (setup law p engine) (moment f (record s { stacks = cut }) k host)
+    (λ m place w. appended m t next (frame_in f (record s { stacks = cut }) place) w)
+    (next ∷ []) 2 1 cut.handlers r (moment f' s' n' host) →
+    Implements (setup law p engine) (moment f s n host)
+    (λ m place w. type_appended m t next (frame_in f s place) w)
+    (next ∷ []) 2 1 s.stacks.handlers r (moment f' s' n' host)
+type_then {H = H} law p engine f s n host t next cut k f' s' n' {r} is counted inside does =
+    at (rw (is, counted) at does) where
+      untraced : Run H
+      untraced = record s { stacks = record s.stacks { trace = [] } }
+
+      passed : StepsView
+      passed = record n { passed = n.passed + 1 }
+
+      at : Implements (setup law p engine) (moment f untraced passed host)
+          (λ m place w. appended m t next (frame_in f untraced place) w) (next ∷ []) 2 1
+          s.stacks.handlers r (moment f' s' n' host) →
+          Implements (setup law p engine) (moment f s n host)
+          (λ m place w. type_appended m t next (frame_in f s place) w)
+          (next ∷ []) 2 1 s.stacks.handlers r (moment f' s' n' host)
+      at did = record {
+        same = then_exactly (record {
+          this = refl;
+          order = omega arith;
+          equal = λ stop clear halts u place.
+              rw (clear n.passed (omega arith) (omega arith)) refl;
+        }) did.same;
+        kept = kept_on f f f' s untraced s' (record {
+          chunk = refl;
+          base = refl;
+          scope = inside;
+          room = refl;
+          noted = refl;
+          outer = refl;
+          saved = refl;
+          level = refl;
+          this = (refl, refl);
+          later = omega arith;
+        }) did.kept;
+        lands = later_lands engine f f' s untraced s' (next ∷ []) 2 1 s.stacks.handlers r (omega arith)
+            refl did.lands;
+        before = did.before;
+      }
+
+-- the last operand alone
+pub last_alone : (hs : List Held) → 0 < length hs → arguments 1 hs ≡ top hs ∷ []
+last_alone [] some = absurd (omega (arith, some))
+last_alone (h ∷ []) some = refl
+last_alone (h ∷ g ∷ hs) some = last_alone (g ∷ hs) (omega arith)
+
+-- as it is read
+pub alone_read : (cells : List Cell) (hs : List Held) (v : Dynamic) → 0 < length hs →
+    flat cells (top hs).value ≡ Some v →
+    flat_all cells (arguments 1 hs) ≡ Some (record (top hs) { value = v } ∷ [])
+alone_read cells hs v some read = rw (last_alone hs some, read) refl

@@ -7,12 +7,13 @@ ghost use Rattle.grain_value.specs.Operands.{top};
 ghost use Rattle.grain_value.specs.Sizes.{is_over};
 ghost use Rattle.grain_value.specs.Writing.{plain, type_name_of};
 ghost use Rattle.grain_value.specs.declared.values.Dynamic.{Dynamic};
-ghost use Rattle.grain_fault.specs.Problems.{problem_of};
-ghost use Rattle.grain_program.specs.View.{View};
+ghost use Rattle.grain_fault.specs.Problems.{Plain, Malformed, problem_of};
+ghost use Rattle.grain_fault.specs.declared.faults.MalformedKind.TheVariants as kind;
+ghost use Rattle.grain_program.specs.View.{View, position_of};
 ghost use Rattle.grain_global.specs.declared.engines.Engine.{Engine};
 ghost use Rattle.grain_means.specs.Means.{setup};
-ghost use Rattle.grain_means.specs.Rules.{answer_appended, appended, segment_read, showing_failed, type_appended};
-ghost use Rattle.grain_frame.specs.Abstraction.{CanBegin, Implements, Performs, Ready, frame_in, setup_of, moment};
+ghost use Rattle.grain_means.specs.Rules.{answer_appended, appended, operand_under, segment_read, showing_failed, shown, type_appended};
+ghost use Rattle.grain_frame.specs.Abstraction.{CanBegin, Implements, Performs, Raises, Ready, frame_in, setup_of, moment};
 ghost use Rattle.grain_frame.specs.Waiting.{ImplementsOrWaits, PerformsOrWaits};
 ghost use Rattle.grain_program.specs.declared.code.instruction_set.Op.TheVariants as op;
 
@@ -25,6 +26,7 @@ use grain_fault::{EvalAltResult, MalformedKind};
 use grain_global::Steps;
 use grain_host::Host;
 use grain_value::{Dynamic, OutOfMemory, Text};
+use std::alloc::Global;
 use std::sync::ledger::Ledger;
 
 impl<H: Host> Run<H> {
@@ -172,11 +174,7 @@ impl<H: Host> Run<H> {
                     return self.data_too_large(context, steps, frame.address, "Length of string");
                 }
             }
-            Some(other) => {
-                let kind = other.own_type_name(self.alloc)?;
-                let kind = MalformedKind::BufferNotText { kind };
-                return Ok(self.malformed(context, steps, frame.address, kind));
-            }
+            Some(_) => return self.buffer_not_text(context, steps, frame.address, 1),
         }
         let _segment = self.stacks.pop();
         let Dynamic::Text(mut buffer) = self.take_flat()? else {
@@ -207,10 +205,7 @@ impl<H: Host> Run<H> {
         let Some(value) = self.read_of(value)? else {
             return self.append_type(context, steps, frame, &type_name, next);
         };
-        let text = match value {
-            Dynamic::Text(text) => text,
-            other => other.own_type_name(self.alloc)?,
-        };
+        let text = shown(self.alloc, value)?;
         self.append(context, steps, frame, &text, next)
     }
 
@@ -260,6 +255,32 @@ impl<H: Host> Run<H> {
         self.append(context, steps, frame, type_name, next)
     }
 
+    // The fault that the buffer, which stands under `above` operands, is no text.
+    #[cold]
+    #[inline(never)]
+    fn buffer_not_text<L: Ledger>(
+        &mut self,
+        context: Context<'_>,
+        steps: &mut Steps<L>,
+        address: usize,
+        above: usize,
+    ) -> Result<Progress, OutOfMemory>
+        requires there { above < length self.old.stacks.operands }
+        requires readable { is_some (flat self.old.cells
+            (operand_under above self.old.stacks.operands).value) ≡ true }
+        ensures { (v : Dynamic) → flat self.old.cells
+            (operand_under above self.old.stacks.operands).value ≡ Some v →
+            Raises self.old steps.old (Plain (Malformed (kind.BufferNotText (type_name_of v)))
+            (position_of context.entry.program.now address)) result self.new steps.new }
+    {
+        let kind = match self.stacks.peek(above).value.flat(&self.cells) {
+            Some(value) => value.own_type_name(self.alloc)?,
+            None => unreachable!(),
+        };
+        let kind = MalformedKind::BufferNotText { kind };
+        Ok(self.malformed(context, steps, address, kind))
+    }
+
     // `interpolate_end`: the text that the last operand is.
     pub(crate) fn interpolate_end<L: Ledger>(
         &mut self,
@@ -276,14 +297,20 @@ impl<H: Host> Run<H> {
         match self.stacks.top().value.flat(&self.cells) {
             None => return self.data_race(context, steps, frame.address, ""),
             Some(Dynamic::Text(_)) => {}
-            Some(other) => {
-                let kind = other.own_type_name(self.alloc)?;
-                let kind = MalformedKind::BufferNotText { kind };
-                return Ok(self.malformed(context, steps, frame.address, kind));
-            }
+            Some(_) => return self.buffer_not_text(context, steps, frame.address, 0),
         }
         let text = self.take_flat()?;
         Ok(self.push_on(steps, frame, text, next))
+    }
+}
+
+// The text that a value is, or else the name of its type.
+fn shown(alloc: Global, value: Dynamic) -> Result<Text, OutOfMemory>
+    ensures { IfOk result (λ text. text ≡ shown value) }
+{
+    match value {
+        Dynamic::Text(text) => Ok(text),
+        other => other.own_type_name(alloc),
     }
 }
 

@@ -156,11 +156,7 @@ impl<H: Host> Run<H> {
         match self.stacks.peek(count + count).value.flat(&self.cells) {
             None => return self.data_race(context, steps, frame.address, ""),
             Some(Dynamic::Map(_)) => {}
-            Some(other) => {
-                let kind = other.own_type_name(self.alloc)?;
-                let kind = MalformedKind::TemplateNotMap { kind };
-                return Ok(self.malformed(context, steps, frame.address, kind));
-            }
+            Some(_) => return self.template_not_map(context, steps, frame.address, count),
         }
         match self.first_misfit(count) {
             None => {}
@@ -171,6 +167,32 @@ impl<H: Host> Run<H> {
         }
         let map = self.take_map(count)?;
         Ok(self.literal_made(steps, frame, count, Dynamic::Map(map), next))
+    }
+
+    // The fault that what stands under the last operands, `count` pairs, is no map.
+    #[cold]
+    #[inline(never)]
+    fn template_not_map<L: Ledger>(
+        &mut self,
+        context: Context<'_>,
+        steps: &mut Steps<L>,
+        address: usize,
+        count: usize,
+    ) -> Result<Progress, OutOfMemory>
+        requires there { count + count < length self.old.stacks.operands }
+        requires readable { is_some (flat self.old.cells
+            (operand_under (count + count) self.old.stacks.operands).value) ≡ true }
+        ensures { (v : Dynamic) → flat self.old.cells
+            (operand_under (count + count) self.old.stacks.operands).value ≡ Some v →
+            Raises self.old steps.old (Plain (Malformed (kind.TemplateNotMap (type_name_of v)))
+            (position_of context.entry.program.now address)) result self.new steps.new }
+    {
+        let kind = match self.stacks.peek(count + count).value.flat(&self.cells) {
+            Some(value) => value.own_type_name(self.alloc)?,
+            None => unreachable!(),
+        };
+        let kind = MalformedKind::TemplateNotMap { kind };
+        Ok(self.malformed(context, steps, address, kind))
     }
 
     // Why the last operands, `count` keys each before its value, are no pairs of a map.

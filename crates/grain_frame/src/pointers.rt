@@ -1,10 +1,10 @@
 //! Pointers to functions: how one is made, values that are added to one, and what its call finds.
 
-ghost use Rattle.std.specs.Prelude.{◌≡◌, ◌<◌, ◌≤◌, ◌+◌, ◌++◌, length, codes, IfOk, Some};
+ghost use Rattle.std.specs.Prelude.{◌≡◌, ◌<◌, ◌≤◌, ◌+◌, ◌++◌, ℕ, List, length, codes, IfOk, Some, is_some, true};
 ghost use Rattle.grain_value.specs.declared.values.Dynamic.{Dynamic};
 ghost use Rattle.grain_value.specs.Writing.{type_name_of};
-ghost use Rattle.grain_value.specs.Operands.{arguments};
-ghost use Rattle.grain_fault.specs.Problems.{Plain, MismatchDataType};
+ghost use Rattle.grain_value.specs.Operands.{arguments, top};
+ghost use Rattle.grain_fault.specs.Problems.{Plain, FunctionNotFound, MismatchDataType};
 ghost use Rattle.grain_program.specs.Indices.{InPools};
 ghost use Rattle.grain_program.specs.View.{position_of};
 ghost use Rattle.grain_value.specs.Cells.{flat};
@@ -12,6 +12,7 @@ ghost use Rattle.grain_value.specs.Looking.{pointer_of};
 ghost use Rattle.grain_means.specs.Rules.{operand_under, trees_in};
 ghost use Rattle.grain_frame.specs.Abstraction.{Performs, Raises, Ready, setup_of, moment};
 ghost use Rattle.grain_frame.specs.Pointers.{StandsUnder};
+ghost use Rattle.grain_value.specs.declared.values.Dynamic.TheVariants as dynamic;
 ghost use Rattle.grain_program.specs.declared.code.instruction_set.Op.TheVariants as op;
 
 use crate::activations::Activation;
@@ -117,25 +118,64 @@ impl<H: Host> Run<H> {
         let name = match self.stacks.top().value.flat(&self.cells) {
             None => return self.data_race(context, steps, frame.address, ""),
             Some(Dynamic::Text(name)) => name,
-            Some(other) => {
-                let type_name = other.own_type_name(self.alloc)?;
-                return self.mismatch(context, steps, frame.address, "string", type_name);
-            }
+            Some(_) => return self.not_a_name(context, steps, frame.address),
         };
         match FnPtr::new(self.alloc, name.as_str()) {
             Ok(pointer) => {
                 let _name = self.stacks.pop();
                 Ok(self.push_on(steps, frame, Dynamic::Pointer(pointer), next))
             }
-            Err(ValueFault::BadName) => {
-                let fault = EvalAltResult::ErrorFunctionNotFound(
-                    name.copy(self.alloc)?,
-                    Position::NONE,
-                );
-                Ok(self.raise_at(context, steps, frame.address, fault))
-            }
+            Err(ValueFault::BadName) => self.no_function_named(context, steps, frame.address),
             Err(_) => Err(OutOfMemory),
         }
+    }
+
+    // The fault that the last operand, of which a pointer is to be made, is no text.
+    #[cold]
+    #[inline(never)]
+    fn not_a_name<L: Ledger>(
+        &mut self,
+        context: Context<'_>,
+        steps: &mut Steps<L>,
+        address: usize,
+    ) -> Result<Progress, OutOfMemory>
+        requires there { 0 < length self.old.stacks.operands }
+        requires readable { is_some (flat self.old.cells (top self.old.stacks.operands).value)
+            ≡ true }
+        ensures { (v : Dynamic) → flat self.old.cells (top self.old.stacks.operands).value ≡ Some v →
+            Raises self.old steps.old (Plain (MismatchDataType (codes "string") (type_name_of v))
+            (position_of context.entry.program.now address)) result self.new steps.new }
+    {
+        let type_name = match self.stacks.top().value.flat(&self.cells) {
+            Some(value) => value.own_type_name(self.alloc)?,
+            None => unreachable!(),
+        };
+        self.mismatch(context, steps, address, "string", type_name)
+    }
+
+    // The fault that no function has the name that the last operand is.
+    #[cold]
+    #[inline(never)]
+    fn no_function_named<L: Ledger>(
+        &mut self,
+        context: Context<'_>,
+        steps: &mut Steps<L>,
+        address: usize,
+    ) -> Result<Progress, OutOfMemory>
+        requires there { 0 < length self.old.stacks.operands }
+        requires text { (s : List ℕ)
+            × (flat self.old.cells (top self.old.stacks.operands).value ≡ Some (dynamic.Text s)) }
+        ensures { (s : List ℕ) →
+            flat self.old.cells (top self.old.stacks.operands).value ≡ Some (dynamic.Text s) →
+            Raises self.old steps.old (Plain (FunctionNotFound s)
+            (position_of context.entry.program.now address)) result self.new steps.new }
+    {
+        let name = match self.stacks.top().value.flat(&self.cells) {
+            Some(Dynamic::Text(name)) => name.copy(self.alloc)?,
+            _ => unreachable!(),
+        };
+        let fault = EvalAltResult::ErrorFunctionNotFound(name, Position::NONE);
+        Ok(self.raise_at(context, steps, address, fault))
     }
 
     // `curry`: the last `count` operands go after the values of the pointer under them.

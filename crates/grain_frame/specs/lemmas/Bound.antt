@@ -17,7 +17,7 @@ use Rattle.grain_global.specs.declared.engines.Engine.{Engine}
 use Rattle.grain_global.specs.StepsView.{StepsView}
 use Rattle.grain_means.specs.Worlds.{Act, Frame, Place, Setup, World}
 use Rattle.grain_means.specs.Places.{find, look, or_unit}
-use Rattle.grain_means.specs.Rules.{at_place, instr}
+use Rattle.grain_means.specs.Rules.{at_place, instr, position}
 use Rattle.grain_means.specs.Ends.{Ends}
 use Rattle.grain_means.specs.Means.{setup}
 use Rattle.grain_means.specs.Simulation.{Binds, Computation, Environment, LocalState, NoStopWithin, Simulates, StopsHere, after, puts, stopped, world}
@@ -118,6 +118,25 @@ held_is m (Some h) roots (Some p) q f w go bound =
     ap (λ (x : Option Held). go (or_unit x)) bound
 held_is m (Some h) roots None q f w go bound = absurd bound
 held_is m None roots (Some p) q f w go bound = absurd bound
+
+-- code that reads what the frame's `this` is
+pub reads_bound : {H : Type 0} {law : Law H} {p : View} {engine : Engine} {f f' : Activation}
+    {s s' : Run H} {n n' : StepsView} {host host' : H} {ts : List ℕ} {takes gives : ℕ}
+    {hs : List Handler} {r : Result Progress OutOfMemory}
+    (go : Setup H → Frame → World H → Held → Act H) →
+    Implements (setup law p engine) (moment f s n host)
+    (λ m place w. at_held m (this_of s) (position m (frame_in f s place)) (frame_in f s place) w
+    (go m (frame_in f s place) w)) ts takes gives hs r (moment f' s' n' host') →
+    ImplementsBound (setup law p engine) (moment f s n host)
+    (λ m place w. at_place m place (position m (frame_in f s place)) (frame_in f s place) w
+    (λ q. go m (frame_in f s place) w (look w.roots q))) ts takes gives hs r
+    (moment f' s' n' host')
+reads_bound {H = H} {law} {p} {engine} {f} {f'} {s} {s'} {n} {n'} {host} {host'} go does =
+    bound_as (as_bound does) (λ stop u place bound.
+    let m = stopped (setup law p engine) stop in
+    let at = frame_in f s place in
+    let w = world (abstraction s n host) u in
+    held_is m (this_of s) u.roots place (position m at) at w (go m at w) bound)
 
 -- from what a method of an instruction did where `this` is bound to one turn of the frame
 pub arm_bound : {H : Type 0} {law : Law H} {p : View} {engine : Engine} {f f' : Activation}

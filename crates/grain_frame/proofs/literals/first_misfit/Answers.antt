@@ -27,23 +27,23 @@ pairs-preserved c =
     let value = value_there (flat cells h.value) some in
     let two : i + 2 ≡ (c.pairs.pair + 1) + (c.pairs.pair + 1) = omega arith in
     λ es.
-        let was = c.pairs.invariant es in
-        let now = put_entry c.in-Some-Text.field-0-0 (tree value.0) was.0 in (
-          now,
-          pair_fits cells hs i k h within c.index-held-key.is c.index-held-key-in-pairs.is es was.0
-              was.1 c.in-Some-Text.field-0-0 value.0 key value.1
-              ∙ ap (λ (n : ℕ). pairs_of cells (drop n hs) now) two,
-        )
+    let was = c.pairs.invariant es in
+    let now = put_entry c.in-Some-Text.field-0-0 (tree value.0) was.0 in (
+      now,
+      pair_fits cells hs i k h within c.index-held-key.is c.index-held-key-in-pairs.is es was.0
+          was.1 c.in-Some-Text.field-0-0 value.0 key value.1
+          ∙ ap (λ (n : ℕ). pairs_of cells (drop n hs) now) two,
+    )
 
 pub returns : goal.returns
 returns c =
     let i = c.pairs.pair + c.pairs.pair in
     λ es.
-        let was = c.pairs.invariant es in (
-          was.0,
-          pairs_over c.args.cells.now c.args.held.now i es was.0
-              (omega (arith, c.requires, c.pairs-test.false)) was.1,
-        )
+    let was = c.pairs.invariant es in (
+      was.0,
+      pairs_over c.args.cells.now c.args.held.now i es was.0
+          (omega (arith, c.requires, c.pairs-test.false)) was.1,
+    )
 
 pub returns-in-None : goal.returns-in-None
 returns-in-None c =
@@ -54,9 +54,9 @@ returns-in-None c =
     let within : i + 1 < length hs = omega (arith, c.requires, c.pairs-test.true) in
     let none : flat cells k.value ≡ None = search rules in
     λ es.
-        let was = c.pairs.invariant es in
-        key_lent cells hs i k (get_or hs (i + 1) k) within c.index-held-key.is
-        (value_at hs (i + 1) k within) es was.0 was.1 none
+    let was = c.pairs.invariant es in
+    key_lent cells hs i k (get_or hs (i + 1) k) within c.index-held-key.is
+    (value_at hs (i + 1) k within) es was.0 was.1 none
 
 pub returns-in-Some : goal.returns-in-Some
 returns-in-Some c =
@@ -69,14 +69,14 @@ returns-in-Some c =
     let read : flat cells k.value ≡ Some x = search rules in
     let none : text_of x ≡ None = search rules in
     λ es.
-        let was = c.pairs.invariant es in (
-          k,
-          x,
-          there_at hs i k (omega (arith, within)) c.index-held-key.is,
-          read,
-          key_refused cells hs i k (get_or hs (i + 1) k) within c.index-held-key.is
-              (value_at hs (i + 1) k within) es was.0 was.1 x read none,
-        )
+    let was = c.pairs.invariant es in (
+      k,
+      x,
+      there_at hs i k (omega (arith, within)) c.index-held-key.is,
+      read,
+      key_refused cells hs i k (get_or hs (i + 1) k) within c.index-held-key.is
+          (value_at hs (i + 1) k within) es was.0 was.1 x read none,
+    )
 
 pub returns-then-is_none : goal.returns-then-is_none
 returns-then-is_none c =
@@ -89,6 +89,6 @@ returns-then-is_none c =
     let key : flat cells k.value ≡ Some (dynamic.Text c.in-Some-Text.field-0-0) = search rules in
     let none : flat cells h.value ≡ None = search rules in
     λ es.
-        let was = c.pairs.invariant es in
-        value_lent cells hs i k h within c.index-held-key.is c.index-held-key-in-pairs.is es was.0
-        was.1 c.in-Some-Text.field-0-0 key none
+    let was = c.pairs.invariant es in
+    value_lent cells hs i k h within c.index-held-key.is c.index-held-key-in-pairs.is es was.0
+    was.1 c.in-Some-Text.field-0-0 key none

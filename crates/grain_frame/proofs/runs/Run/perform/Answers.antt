@@ -1,13 +1,10 @@
 -- What each instruction's method did is a turn of the frame.
 use Rattle.std.proofs.Common.{◌∷◌, [], ◌-◌, ◌+◌, refl, length, Some, None}
-use Rattle.grain_means.specs.Means.{setup}
-use Rattle.grain_means.specs.Rules.{flattened, onward, position, pushed, stepped}
-use Rattle.grain_means.specs.Simulation.{stopped, world}
-use Rattle.grain_frame.specs.Abstraction.{abstraction, frame_in, this_of}
+use Rattle.grain_means.specs.Rules.{flattened, onward, pushed, stepped}
 use Rattle.grain_frame.specs.Handling.{armed, around}
 use Rattle.grain_frame.specs.lemmas.Arms.{arm, arm_with, verified}
 use Rattle.grain_frame.specs.lemmas.Looping.{arm_loop}
-use Rattle.grain_frame.specs.lemmas.Bound.{arm_bound, as_bound, bound_as, held_is}
+use Rattle.grain_frame.specs.lemmas.Bound.{arm_bound, reads_bound}
 use Rattle.grain_frame.proofs.Handled.{one_tried, outer_tried, outer_above, some_tried}
 use Rattle.grain_frame.proofs.runs.Run.perform.Goals as goal
 
@@ -118,55 +115,28 @@ returns-in-AssignLocal g c = record {
 }
 
 pub returns-in-LoadThis : goal.returns-in-LoadThis
-returns-in-LoadThis g c =
-    let p = c.args.context.program.now in
-    let engine = c.args.context.engine.now in
-    let s = c.args.self.now in
-    let f = c.args.frame.now in
-    let host = c.args.host.now in
-    record {
-      stepped = arm_bound c.in-LoadThis.is refl refl c.requires.stands c.requires.runs
-          (bound_as (as_bound (c.load_this.ensures.implements host)) (λ stop u place bound.
-          let m = stopped (setup g.H.Host.law p engine) stop in
-          let at = frame_in f s place in
-          let w = world (abstraction s c.args.steps.now host) u in
-          held_is m (this_of s) u.roots place (position m at) at w
-          (λ h. flattened m h [] at w (λ v. pushed m at c.args.next at.operands v w)) bound));
-    }
+returns-in-LoadThis g c = record {
+  stepped = arm_bound c.in-LoadThis.is refl refl c.requires.stands c.requires.runs
+      (reads_bound
+      (λ m at w h. flattened m h [] at w (λ v. pushed m at c.args.next at.operands v w))
+      (c.load_this.ensures.implements c.args.host.now));
+}
 
 pub returns-in-LoadThisShared : goal.returns-in-LoadThisShared
-returns-in-LoadThisShared g c =
-    let p = c.args.context.program.now in
-    let engine = c.args.context.engine.now in
-    let s = c.args.self.now in
-    let f = c.args.frame.now in
-    let host = c.args.host.now in
-    record {
-      stepped = arm_bound c.in-LoadThisShared.is refl refl c.requires.stands c.requires.runs
-          (bound_as (as_bound (c.load_this_shared.ensures.implements host)) (λ stop u place bound.
-          let m = stopped (setup g.H.Host.law p engine) stop in
-          let at = frame_in f s place in
-          let w = world (abstraction s c.args.steps.now host) u in
-          held_is m (this_of s) u.roots place (position m at) at w
-          (λ h. pushed m at c.args.next at.operands h.value w) bound));
-    }
+returns-in-LoadThisShared g c = record {
+  stepped = arm_bound c.in-LoadThisShared.is refl refl c.requires.stands c.requires.runs
+      (reads_bound
+      (λ m at w h. pushed m at c.args.next at.operands h.value w)
+      (c.load_this_shared.ensures.implements c.args.host.now));
+}
 
 pub returns-in-RequireThis : goal.returns-in-RequireThis
-returns-in-RequireThis g c =
-    let p = c.args.context.program.now in
-    let engine = c.args.context.engine.now in
-    let s = c.args.self.now in
-    let f = c.args.frame.now in
-    let host = c.args.host.now in
-    record {
-      stepped = arm_bound c.in-RequireThis.is refl refl c.requires.stands c.requires.runs
-          (bound_as (as_bound (c.require_this.ensures.implements host)) (λ stop u place bound.
-          let m = stopped (setup g.H.Host.law p engine) stop in
-          let at = frame_in f s place in
-          let w = world (abstraction s c.args.steps.now host) u in
-          held_is m (this_of s) u.roots place (position m at) at w
-          (λ h. onward m at (stepped at c.args.next at.operands) w) bound));
-    }
+returns-in-RequireThis g c = record {
+  stepped = arm_bound c.in-RequireThis.is refl refl c.requires.stands c.requires.runs
+      (reads_bound
+      (λ m at w h. onward m at (stepped at c.args.next at.operands) w)
+      (c.require_this.ensures.implements c.args.host.now));
+}
 
 pub returns-in-AssignThis : goal.returns-in-AssignThis
 returns-in-AssignThis g c = record {
