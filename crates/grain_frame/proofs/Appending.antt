@@ -1,9 +1,10 @@
 -- What is appended to a text: where it stops if memory is out, and what comes before it.
-use Rattle.std.proofs.Common.{◌≡◌, ◌∙◌, ◌<◌, ◌≤◌, ◌+◌, ◌++◌, ◌∷◌, ℕ, List, [], Option, Some, None, Bool, true, false, if◌then◌else◌, Result, Ok, Err, length, refl, sym, ap, arith}
+use Rattle.std.proofs.Common.{◌≡◌, ◌∙◌, ◌<◌, ◌≤◌, ◌+◌, ◌++◌, ◌∷◌, ℕ, List, [], Option, Some, None, Bool, true, false, if◌then◌else◌, Result, Ok, Err, length, take, zero, suc, ◌-◌, refl, sym, ap, arith}
 use Rattle.std.specs.Prelude.{codes}
+use Rattle.std.proofs.lemmas.List.{length-take-le}
 use Rattle.grain_value.specs.Cells.{flat}
 use Rattle.grain_value.specs.Looking.{text_of}
-use Rattle.grain_value.specs.Operands.{arguments, top, under}
+use Rattle.grain_value.specs.Operands.{arguments, below, top, under}
 use Rattle.grain_value.specs.Sizes.{is_over}
 use Rattle.grain_value.specs.Writing.{kind_of, type_name_of}
 use Rattle.grain_value.specs.declared.memory.OutOfMemory.{OutOfMemory}
@@ -147,3 +148,19 @@ pub alone_read : (cells : List Cell) (hs : List Held) (v : Dynamic) → 0 < leng
     flat cells (top hs).value ≡ Some v →
     flat_all cells (arguments 1 hs) ≡ Some (record (top hs) { value = v } ∷ [])
 alone_read cells hs v some read = rw (last_alone hs some, read) refl
+
+-- the front of a front
+take_shorter : (b n : ℕ) (hs : List Held) → b ≤ n → take b (take n hs) ≡ take b hs
+take_shorter zero n hs le = refl
+take_shorter (suc b) zero hs le = absurd (omega (arith, le))
+take_shorter (suc b) (suc n) [] le = refl
+take_shorter (suc b) (suc n) (h ∷ hs) le =
+    ap (λ (l : List Held). h ∷ l) (take_shorter b n hs (omega (arith, le)))
+
+-- two operands less
+pub below_twice : (hs : List Held) → 2 ≤ length hs → below (below hs) ≡ under 2 hs
+below_twice hs many =
+    let short : length (below hs) - 1 ≡ length hs - 2 =
+    omega (arith, length-take-le (length hs - 1) hs (omega arith)) in
+    ap (λ (n : ℕ). take n (below hs)) short
+    ∙ take_shorter (length hs - 2) (length hs - 1) hs (omega arith)

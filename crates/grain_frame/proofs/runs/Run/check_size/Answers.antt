@@ -1,0 +1,79 @@
+-- Nothing is counted, or the total grows, or a fault is raised.
+use Rattle.std.proofs.Common.{◌≡◌, ◌∙◌, ◌∷◌, [], Some, None, Ok, true, false, refl, ap, arith, rules}
+use Rattle.std.specs.Prelude.{option_map}
+use Rattle.grain_value.specs.Cells.{flat}
+use Rattle.grain_value.specs.Operands.{top}
+use Rattle.grain_value.specs.Sizes.{limits_sizes, too_large}
+use Rattle.grain_fault.specs.Problems.{Plain, DataRace, DataTooLarge, Malformed}
+use Rattle.grain_fault.specs.declared.faults.MalformedKind.TheVariants as kind
+use Rattle.grain_program.specs.View.{position_of}
+use Rattle.grain_stack.specs.Entries.{first_of}
+use Rattle.grain_means.specs.Means.{setup}
+use Rattle.grain_means.specs.Rules.{race_text}
+use Rattle.grain_means.specs.Simulation.{stopped, world}
+use Rattle.grain_frame.specs.Abstraction.{abstraction}
+use Rattle.grain_frame.specs.Literals.{around, opened}
+use Rattle.grain_frame.specs.lemmas.Failing.{raises_here}
+use Rattle.grain_frame.proofs.Totalled.{checks_lent, checks_missing, checks_none, checks_one, checks_over, implements_totalled}
+use Rattle.grain_frame.proofs.runs.Run.check_size.Goals as goal
+
+-- no size is limited
+pub returns-then-not-limit_sizes : goal.returns-then-not-limit_sizes
+returns-then-not-limit_sizes g c =
+    let p = c.args.context.program.now in
+    let engine = c.args.context.engine.now in
+    let s = c.args.self.now in
+    let f = c.args.frame.now in
+    let own = opened c.args.index s.stacks.totals in
+    let unlimited : limits_sizes engine.limits ≡ false = search rules in
+    let open : c.open_literal.new.self ≡ record s { stacks = record s.stacks { totals = own } } =
+    search rules in
+    record {
+      implements = λ host. implements_totalled g.H.Host.law p engine f c.go_on.new.frame s
+          c.go_on.new.self c.args.steps.now c.go_on.new.steps
+          (record s.stacks { totals = own }) s.stacks.operands own host host refl
+          (rw open at (c.go_on.ensures.implements p engine host))
+          (λ stop u place. checks_none (stopped (setup g.H.Host.law p engine) stop) f s place
+          (world (abstraction s c.args.steps.now host) u) c.args.one c.args.index c.args.next
+          unlimited) (λ b i. i) (omega arith) (omega arith);
+    }
+
+-- there is no total
+pub returns-in_default : goal.returns-in_default
+returns-in_default g c =
+    let p = c.args.context.program.now in
+    let engine = c.args.context.engine.now in
+    let s = c.args.self.now in
+    let f = c.args.frame.now in
+    let limited : limits_sizes engine.limits ≡ true = search rules in
+    let none : first_of (opened c.args.index s.stacks.totals) ≡ None = search rules in
+    record {
+      implements = λ host. raises_here g.H.Host.law p engine f s c.malformed.new.self
+          c.args.steps.now c.malformed.new.steps host
+          (Plain (Malformed (kind.MissingTotal c.args.index)) (position_of p f.address))
+          (Ok c.malformed.result) c.malformed.ensures c.requires.ready.inside
+          (λ stop u place. checks_missing (stopped (setup g.H.Host.law p engine) stop) f s place
+          (world (abstraction s c.args.steps.now host) u) c.args.one c.args.index c.args.next
+          limited none);
+    }
+
+-- the element is a cell that is lent
+pub returns-then-is_none : goal.returns-then-is_none
+returns-then-is_none g c =
+    let p = c.args.context.program.now in
+    let engine = c.args.context.engine.now in
+    let s = c.args.self.now in
+    let f = c.args.frame.now in
+    let limited : limits_sizes engine.limits ≡ true = search rules in
+    let there : first_of (opened c.args.index s.stacks.totals) ≡ Some c.in-Some.total =
+    search rules in
+    let none : flat s.cells (top s.stacks.operands).value ≡ None = search rules in
+    record {
+      implements = λ host. raises_here g.H.Host.law p engine f s c.data_race.new.self
+          c.args.steps.now c.data_race.new.steps host
+          (Plain (DataRace (race_text [])) (position_of p f.address)) c.data_race.result
+          c.data_race.ensures c.requires.ready.inside
+          (λ stop u place. checks_lent (stopped (setup g.H.Host.law p engine) stop) f s place
+          (world (abstraction s c.args.steps.now host) u) c.args.one c.args.index c.args.next
+          limited c.in-Some.total there none);
+    }
