@@ -6,7 +6,7 @@ use Rattle.grain_value.specs.Cells.{flat}
 use Rattle.grain_value.specs.Looking.{text_of}
 use Rattle.grain_value.specs.Operands.{arguments, below, top, under}
 use Rattle.grain_value.specs.Sizes.{is_over}
-use Rattle.grain_value.specs.Writing.{kind_of, type_name_of}
+use Rattle.grain_value.specs.Writing.{kind_of, plain, type_name_of}
 use Rattle.grain_value.specs.declared.memory.OutOfMemory.{OutOfMemory}
 use Rattle.grain_value.specs.declared.natives.Native.{Native}
 use Rattle.grain_value.specs.declared.stores.Cell.{Cell}
@@ -21,7 +21,7 @@ use Rattle.grain_global.specs.declared.engines.Engine.{Engine}
 use Rattle.grain_global.specs.StepsView.{StepsView}
 use Rattle.grain_stack.specs.Views.{StacksView}
 use Rattle.grain_means.specs.Worlds.{Act, Frame, Setup, World, is_stop}
-use Rattle.grain_means.specs.Rules.{answer_appended, appended, flat_all, flat_or_race, leave_by_fault, operand_under, position, pushed, put_behind, raised, segment_read, showing, showing_failed, to_string, type_appended}
+use Rattle.grain_means.specs.Rules.{answer_appended, appended, data_race, flat_all, flat_or_race, leave_by_fault, native, not_a_buffer, operand_under, position, pushed, put_behind, raised, segment_read, showing, showing_failed, to_string, type_appended}
 use Rattle.grain_means.specs.Means.{setup}
 use Rattle.grain_means.specs.lemmas.Stretches.{then_exactly}
 use Rattle.grain_frame.specs.Abstraction.{Implements, frame_in, moment}
@@ -164,3 +164,43 @@ below_twice hs many =
     omega (arith, length-take-le (length hs - 1) hs (omega arith)) in
     ap (λ (n : ℕ). take n (below hs)) short
     ∙ take_shorter (length hs - 2) (length hs - 1) hs (omega arith)
+
+-- what the rules say of a text that goes behind the buffer, and of a segment that is shown
+module _ {S : Type 0} (m : Setup S) (f : Frame) (w : World S) (next : ℕ) where
+  -- the buffer is a cell that is lent
+  pub appends_lent : (s : List ℕ) → flat w.cells (operand_under 1 f.operands).value ≡ None →
+      appended m s next f w ≡ data_race m [] f w
+  appends_lent s none = rw none refl
+
+  -- it is no text
+  pub appends_to_none : (s : List ℕ) (v : Dynamic) →
+      flat w.cells (operand_under 1 f.operands).value ≡ Some v → text_of v ≡ None →
+      appended m s next f w ≡ not_a_buffer m v f w
+  appends_to_none s v read none = rw (read, none) refl
+
+  module _ (s b : List ℕ) (read : flat w.cells (operand_under 1 f.operands).value
+      ≡ Some (dynamic.Text b)) where
+    -- the text becomes too long
+    pub appends_too_much : is_over m.engine.limits.text (length b + length s) ≡ true →
+        appended m s next f w
+        ≡ raised m f (Plain (DataTooLarge (codes "Length of string")) (position m f)) w
+    appends_too_much over = rw (read, over) refl
+
+    pub appends : is_over m.engine.limits.text (length b + length s) ≡ false →
+        appended m s next f w ≡ pushed m f next (under 2 f.operands) (dynamic.Text (b ++ s)) w
+    appends within = rw (read, within) refl
+
+  -- no native shows the segment
+  pub shows_plainly : (v : Dynamic) (h : Held) →
+      native_of m.law w.host to_string (kind_of h.value ∷ []) ≡ None →
+      segment_read m None v h next f w ≡ appended m (plain v) next f w
+  shows_plainly v h none = rw none refl
+
+  -- a native does
+  pub shows : (v : Dynamic) (h : Held) (n : Native) →
+      native_of m.law w.host to_string (kind_of h.value ∷ []) ≡ Some n →
+      segment_read m None v h next f w
+      ≡ native m to_string None (h ∷ []) f w
+      (λ r w1. answer_appended m (flat w1.cells r) (type_name_of v) next f w1)
+      (showing_failed m (type_name_of v) next f)
+  shows v h n found = rw found refl
