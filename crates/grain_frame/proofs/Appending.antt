@@ -1,7 +1,7 @@
 -- What is appended to a text: where it stops if memory is out, and what comes before it.
 use Rattle.std.proofs.Common.{◌≡◌, ◌∙◌, ◌<◌, ◌≤◌, ◌+◌, ◌++◌, ◌∷◌, ℕ, List, [], Option, Some, None, Bool, true, false, if◌then◌else◌, Result, Ok, Err, length, take, zero, suc, ◌-◌, refl, sym, ap, arith}
 use Rattle.std.specs.Prelude.{codes}
-use Rattle.std.proofs.lemmas.List.{length-take-le}
+use Rattle.std.proofs.lemmas.List.{length-take-le, take_all}
 use Rattle.grain_value.specs.Cells.{flat}
 use Rattle.grain_value.specs.Looking.{text_of}
 use Rattle.grain_value.specs.Operands.{arguments, below, top, under}
@@ -156,6 +156,10 @@ take_shorter (suc b) zero hs le = absurd (omega (arith, le))
 take_shorter (suc b) (suc n) [] le = refl
 take_shorter (suc b) (suc n) (h ∷ hs) le =
     ap (λ (l : List Held). h ∷ l) (take_shorter b n hs (omega (arith, le)))
+
+-- all operands but none
+pub under_none : (hs : List Held) → under 0 hs ≡ hs
+under_none hs = take_all (length hs - 0) hs (omega arith)
 
 -- two operands less
 pub below_twice : (hs : List Held) → 2 ≤ length hs → below (below hs) ≡ under 2 hs

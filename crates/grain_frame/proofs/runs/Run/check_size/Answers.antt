@@ -26,13 +26,13 @@ returns-then-not-limit_sizes g c =
     let f = c.args.frame.now in
     let own = opened c.args.index s.stacks.totals in
     let unlimited : limits_sizes engine.limits ≡ false = search rules in
-    let open : c.open_literal.new.self ≡ record s { stacks = record s.stacks { totals = own } } =
+    let begun : c.open_literal.new.self ≡ record s { stacks = record s.stacks { totals = own } } =
     search rules in
     record {
       implements = λ host. implements_totalled g.H.Host.law p engine f c.go_on.new.frame s
           c.go_on.new.self c.args.steps.now c.go_on.new.steps
           (record s.stacks { totals = own }) s.stacks.operands own host host refl
-          (rw open at (c.go_on.ensures.implements p engine host))
+          (rw begun at (c.go_on.ensures.implements p engine host))
           (λ stop u place. checks_none (stopped (setup g.H.Host.law p engine) stop) f s place
           (world (abstraction s c.args.steps.now host) u) c.args.one c.args.index c.args.next
           unlimited) (λ b i. i) (omega arith) (omega arith);

@@ -12,6 +12,7 @@ use Rattle.grain_program.specs.View.{position_of}
 use Rattle.grain_means.specs.Rules.{race_text}
 use Rattle.grain_frame.specs.lemmas.Arms.{implements_after}
 use Rattle.grain_frame.specs.lemmas.Failing.{raises_here}
+use Rattle.grain_frame.proofs.Appending.{under_none}
 use Rattle.grain_frame.proofs.runs.Run.interpolate_end.Goals as goal
 
 pub returns-in-None : goal.returns-in-None
@@ -27,6 +28,13 @@ returns-in-None g c =
           c.data_race.ensures c.requires.ready.inside (λ stop u place. rw none refl);
     }
 
+pub buffer_not_text-requires-clause-readable : goal.buffer_not_text-requires-clause-readable
+buffer_not_text-requires-clause-readable g c =
+    let s = c.args.self.now in
+    let v = c.in-Some.field-0.now in
+    let read : flat s.cells (top s.stacks.operands).value ≡ Some v = search rules in
+    rw (under_none s.stacks.operands, read) refl
+
 pub returns-in-Some : goal.returns-in-Some
 returns-in-Some g c =
     let p = c.args.context.program.now in
@@ -39,7 +47,7 @@ returns-in-Some g c =
       performs = λ host. raises_here g.H.Host.law p c.args.context.engine.now f s
           c.buffer_not_text.new.self c.args.steps.now c.buffer_not_text.new.steps host
           (Plain (Malformed (kind.BufferNotText (type_name_of v))) (position_of p f.address))
-          c.buffer_not_text.result (c.buffer_not_text.ensures v (search rules))
+          c.buffer_not_text.result (c.buffer_not_text.ensures v (rw (under_none s.stacks.operands) read))
           c.requires.ready.inside (λ stop u place. rw (read, none) refl);
     }
 
