@@ -39,3 +39,9 @@ returns-in-Operate g c = rw c.in-Operate.is (record {
   implements = λ takes gives targets host leads. rw (leads.1, leads.2, leads.3)
       (c.assign_answer.ensures.implements host);
 })
+
+pub returns-in-Show : goal.returns-in-Show
+returns-in-Show g c = rw c.in-Show.is (record {
+  implements = λ takes gives targets host leads. rw (leads.1, leads.2, leads.3)
+      (as_bound (c.append_answer.ensures.implements host));
+})
