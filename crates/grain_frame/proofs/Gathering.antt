@@ -22,6 +22,9 @@ newest_first items now h is = ap reverse is ∙ reverse-append now (h ∷ [])
 one_value : (o : Option Dynamic) (a b : Dynamic) → o ≡ Some a → o ≡ Some b → a ≡ b
 one_value o a b is also = cc
 
+pub one_list : (o : Option (List Held)) (a b : List Held) → o ≡ Some a → o ≡ Some b → a ≡ b
+one_list o a b is also = cc
+
 pub is_there : (o : Option Dynamic) (v : Dynamic) → o ≡ Some v → is_some o ≡ true
 is_there o v is = rw is refl
 
