@@ -222,7 +222,7 @@ module _ {H : Type 0} (law : Law H) (p : View) (engine : Engine) (f : Activation
     kept = kept_before f f2 s s1 s2 others did.kept;
     lands = lands_on engine s s2 (record s.stacks { operands = s1.stacks.operands }) f f2
         (next ∷ []) (next ∷ []) total 1 (count + 1) 1 s.stacks.handlers r
-        (omega (arith, height)) (omega (arith, height)) refl (λ b inside. inside)
+        refl (omega (arith, height)) (omega (arith, height)) refl (λ b inside. inside)
         (subst (λ (k : Run H). ContinuesAt engine k f s2 f2 (next ∷ []) total 1 k.stacks.handlers r)
         others did.lands);
     before = did.before;
@@ -254,17 +254,17 @@ done_here law p engine f f' s s' n n' host host' (Err e) did = did
 -- what the instruction at which a frame stands comes to
 found_here : {H : Type 0} (law : Law H) (p : View) (engine : Engine) (f f' : Activation)
     (s s' : Run H) (n n' : StepsView) (o : Op) (next : ℕ) (host host' : H)
-    (r : Result Found OutOfMemory) → Runs p f s → StandsAt p f s o next → IsCall o next →
+    (r : Result Found OutOfMemory) → Runs p f s → StandsAt p f s o next → IsCall p o next →
     Finds (setup law p engine) (moment f s n host) o next r (moment f' s' n' host') →
     FindsHere (setup law p engine) (moment f s n host) r (moment f' s' n' host')
 found_here law p engine f f' s s' n n' o next host host' (Ok (found.Done q)) runs at call did =
-    arm_bound refl call.keeps at runs did
+    arm_bound refl call.keeps call.holds at runs did
 found_here law p engine f f' s s' n n' o next host host' (Ok (found.Function number to)) runs at
     call did =
     subst (λ (k : ℕ). FindsHere (setup law p engine) (moment f s n host) (Ok
     (found.Function number k)) (moment f' s' n' host')) (sym did.0) (o, at, call, did.1)
 found_here law p engine f f' s s' n n' o next host host' (Err e) runs at call did =
-    arm_bound refl call.keeps at runs did
+    arm_bound refl call.keeps call.holds at runs did
 
 -- the frame has its chunk and its base, whatever its instruction came to
 found_kept : {H : Type 0} (law : Law H) (p : View) (engine : Engine) (f f' : Activation)
@@ -282,7 +282,7 @@ found_kept law p engine f f' s s' n n' o next host host' (Err e) did =
 -- the same where a copy of the frame was given, from which the frame takes what may have changed
 found_back : {H : Type 0} (law : Law H) (p : View) (engine : Engine) (f f' : Activation)
     (s s' : Run H) (n n' : StepsView) (o : Op) (next : ℕ) (host host' : H)
-    (r : Result Found OutOfMemory) → Runs p f s → StandsAt p f s o next → IsCall o next →
+    (r : Result Found OutOfMemory) → Runs p f s → StandsAt p f s o next → IsCall p o next →
     Finds (setup law p engine) (moment f s n host) o next r (moment f' s' n' host') →
     FindsHere (setup law p engine) (moment f s n host) r (moment (taking f f') s' n' host')
 found_back law p engine f f' s s' n n' o next host host' r runs at call did =
@@ -301,7 +301,7 @@ pub call_found : {H : Type 0} (law : Law H) (p : View) (engine : Engine) (f f' :
 call_found law p engine f f' s s' n n' name count next host host' q r runs is waits did =
     found_here law p engine f f' s s' n n' (op.Call name count) next host host' r runs
     (subst (λ (k : Pending). IsPending p f s k) is waits)
-    (record { leads = refl; gives = refl; keeps = refl }) did
+    (record { leads = refl; gives = refl; holds = refl; keeps = refl }) did
 
 -- what `call_fn_ptr` comes to, on a copy of the frame
 pub pointer_found : {H : Type 0} (law : Law H) (p : View) (engine : Engine) (f f' : Activation)
@@ -313,7 +313,7 @@ pub pointer_found : {H : Type 0} (law : Law H) (p : View) (engine : Engine) (f f
 pointer_found law p engine f f' s s' n n' count next host host' q r runs is waits did =
     found_back law p engine f f' s s' n n' (op.CallFnPtr count) next host host' r runs
     (subst (λ (k : Pending). IsPending p f s k) is waits)
-    (record { leads = refl; gives = refl; keeps = refl }) did
+    (record { leads = refl; gives = refl; holds = refl; keeps = refl }) did
 
 -- the frame has its chunk and its base, whatever came of its instruction
 kept_here : {H : Type 0} (m : Setup H) (a b : Moment H) (r : Result Found OutOfMemory) →
@@ -364,12 +364,12 @@ found_stepped {H = H} law p engine f f1 f2 s s1 s2 n n1 n2 number next host host
     (λ m place w. instr m o next (frame_in f s place) w) (is_out r) (abstraction s2 n2 host2)
     (continuation r s2.fault (frame_in f2 s2)) =
     compose (same (finds.goes g is)) goes tt in
-    done law p engine f s o at.width runs at.seen call.keeps at.read n f2 s2 n2 host host2
+    done law p engine f s o at.width runs at.seen call.holds call.keeps at.read n f2 s2 n2 host host2
     (subst (λ (k : ℕ). Simulates (setup law p engine) (abstraction s n host)
     (λ m place w. instr m o k (frame_in f s place) w) (is_out r) (abstraction s2 n2 host2)
     (continuation r s2.fault (frame_in f2 s2))) there one)
     kept_here
-    (subst (λ (k : ℕ). ContinuesAt engine s f s2 f2 (leads_of o k) (takes_of p o) (gives_of o)
+    (subst (λ (k : ℕ). ContinuesAt engine s f s2 f2 (leads_of p o k) (takes_of p o) (gives_of o)
     s.stacks.handlers r) there lands_here)
     (before ∙ finds.before) where
       kept_here : KeepsFrame f s f2 s2
@@ -387,13 +387,13 @@ found_stepped {H = H} law p engine f f1 f2 s s1 s2 n n1 n2 number next host host
           (subst (λ (q : Run H). ContinuesAt engine q f1 s2 f2 (next ∷ []) (length g.params) 1
           q.stacks.handlers r) finds.others lands)
 
-      here : (b : ℕ) → In b (next ∷ []) → In b (leads_of o next)
+      here : (b : ℕ) → In b (next ∷ []) → In b (leads_of p o next)
       here b inside = subst (λ (ts : List ℕ). In b ts) (sym call.leads) inside
 
-      lands_here : ContinuesAt engine s f s2 f2 (leads_of o next) (takes_of p o) (gives_of o)
+      lands_here : ContinuesAt engine s f s2 f2 (leads_of p o next) (takes_of p o) (gives_of o)
           s.stacks.handlers r
       lands_here =
-          lands_on engine s s2 stacks f f2 (next ∷ []) (leads_of o next) (length g.params) 1
+          lands_on engine s s2 stacks f f2 (next ∷ []) (leads_of p o next) (length g.params) 1
           (takes_of p o) (gives_of o) stacks.handlers r
-          (omega (arith, finds.operands g is, call.gives))
+          refl (omega (arith, finds.operands g is, call.gives))
           (omega (arith, finds.operands g is)) refl here from

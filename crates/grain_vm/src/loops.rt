@@ -59,7 +59,7 @@ pub(crate) fn call<H: Host, L: Ledger>(
     requires room { length run.old.stacks.operands - length function.now.params + 1
         ≤ run.old.stacks.room }
     requires enters { IsTypedAt context.program.now function.now.chunk
-        function.now.chunk.entry 0 [] }
+        function.now.chunk.entry 0 0 [] }
     requires named { IsNamed context.program.now function.now }
     requires none { NoneAbove run.old.level run.old.receivers }
     ensures goes { Simulates (setup_of H.law context.entry)

@@ -90,7 +90,7 @@ loops::call-returns-then-begun-clause-goes g t c =
     call_ran f c.args.next function c.args.run.now.scope c.args.run.now.level (this_of s)
     (has_begun c.in-Ok.begun c.args.run.now c.enter_function.new.run function f c.args.next
     c.if-begun.true (c.in-Ok.ensures.same c.args.next))
-    (λ place. rw (entered.operands, entered.handlers) refl)
+    (λ place. rw (entered.operands, entered.cursors, entered.totals, entered.handlers) refl)
     (rw (entered.level, entered.receivers) (unbound_above s.level s.receivers c.requires.none))
     ran.ensures.goes
     (there_is c.args.context.engine.now c.args.frame.now c.resume_caller.new.frame c.args.run.now
