@@ -21,8 +21,8 @@ use Rattle.grain_program.specs.laws.Leads.{in_branch, past_branch}
 use Rattle.grain_host.specs.Law.{Law}
 use Rattle.grain_global.specs.declared.engines.Engine.{Engine}
 use Rattle.grain_global.specs.StepsView.{StepsView}
-use Rattle.grain_stack.specs.Cursors.{first_cell, items_left}
-use Rattle.grain_stack.specs.Entries.{first_of}
+use Rattle.grain_stack.specs.Cursors.{Gives, first_cell, items_left}
+use Rattle.grain_stack.specs.Entries.{first_of, with_first}
 use Rattle.grain_stack.specs.Views.{StacksView}
 use Rattle.grain_stack.specs.declared.cursors.Cursor.{Cursor}
 use Rattle.grain_means.specs.Worlds.{Go, InFrame, Place, World, Act, Setup, is_stop}
@@ -99,10 +99,31 @@ pub nothing_left : (ts : List Tree) → is_none (first_of ts) ≡ true → ts �
 nothing_left [] e = refl
 nothing_left (t ∷ us) e = absurd cc
 
+-- the innermost cursor is not over, so it gives an item
+pub gives_some : (cs : List Cursor) (c : Cursor) (after : List Tree) → Some c ≡ first_of cs →
+    is_none (first_of (first_items cs)) ≡ false → ¬ (Gives (items_left c.left) None after)
+gives_some [] c after is more gives = absurd cc
+gives_some (d ∷ ds) c after is more gives =
+    let same : c ≡ d = cc in
+    let over : items_left d.left ≡ [] =
+    ap (λ (x : Cursor). items_left x.left) (sym same) ∙ gives.0 in
+    let never : true ≡ false = ap (λ (ts : List Tree). is_none (first_of ts)) (sym over) ∙ more in
+    cc
+
+-- it gave an item, and was counted
+pub gave_first : (cs : List Cursor) (c d : Cursor) (item : Dynamic) (count : ℤ) →
+    Some c ≡ first_of cs → Gives (items_left c.left) (Some item) (items_left d.left) →
+    d.counter ≡ count → Gave cs (with_first d cs) item count
+gave_first [] c d item count is gives counted = absurd cc
+gave_first (e ∷ es) c d item count is gives counted =
+    let same : c ≡ e = cc in
+    (ap (λ (x : Cursor). items_left x.left) (sym same) ∙ gives, counted, refl)
+
 module _ {H : Type 0} (law : Law H) (p : View) (engine : Engine) (f : Activation) (s : Run H)
     (n : StepsView) (host : H) where
   -- where the next item comes, and where it comes that there is none
-  pub comes_with_item : (target next height many : ℕ) → 0 < length s.stacks.cursors → height ≡ length s.stacks.operands + 1 →
+  pub comes_with_item : (target next height many : ℕ) → 0 < length s.stacks.cursors →
+      height ≡ length s.stacks.operands + 1 →
       many ≡ length s.stacks.cursors → In (arrival next (shape height many
       (tries_in s.stacks.handlers))) (arrivals_of p (op.IterNext target) next s)
   comes_with_item target next height many there high less =

@@ -270,7 +270,7 @@ impl<H: Host> Run<H> {
         if self.is_next_lent() {
             return self.data_race(context, steps, frame.address, "");
         }
-        let item = self.take_item(count)?;
+        let item = self.take_item(count);
         let value = self.flat_value(item)?;
         self.stacks.push(Held::read_write(value));
         frame.address = next;
@@ -293,17 +293,16 @@ impl<H: Host> Run<H> {
     }
 
     // Takes the next item of the innermost loop, which has this count from then on.
-    fn take_item(&mut self, count: i64) -> Result<Dynamic, OutOfMemory>
+    fn take_item(&mut self, count: i64) -> Dynamic
         requires there { 0 < length self.old.stacks.cursors }
         requires more { is_none (first_of (first_items self.old.stacks.cursors)) ≡ false }
-        ensures taken { IfOk result (λ item. TakesItem self.old self.new item count) }
-        ensures unchanged { OnErr result (self.new ≡ self.old) }
+        ensures { TakesItem self.old self.new result count }
     {
         let cursor = self.stacks.cursor_mut();
-        match cursor.next(self.alloc)? {
+        match cursor.next() {
             Some(item) => {
                 cursor.counter = count;
-                Ok(item)
+                item
             }
             None => unreachable!(),
         }

@@ -59,11 +59,12 @@ pub record Handler : Type 0 where
   pub scope : ℕ
   pub caught : Option Problem
 
--- A frame: the address of its instruction, its own operands, its own cursors, totals and handlers, of
--- each the innermost first, the scope's length at its entry, from which its slots count, the length to which a fault cuts the
--- scope, and the place of its `this`, if any. While it walks a chain, and until a fault of the walk is
--- caught, it has the slot by which a trace names the step that is blamed; while a step is done, it
--- has the position that stands in place of its instruction's.
+-- A frame: the address of its instruction, its own operands, the newest last, its own cursors, totals
+-- and handlers, of each the innermost first, the scope's length at its entry, from which its slots
+-- count, the length to which a fault cuts the scope, and the place of its `this`, if any. While it
+-- walks a chain, and until a fault of the walk is caught, it has the slot by which a trace names the
+-- step that is blamed; while a step is done, it has the position that stands in place of its
+-- instruction's.
 pub record Frame : Type 0 where
   pub address : ℕ
   pub operands : List Held

@@ -71,7 +71,7 @@ pub fn counted<S>()
 {}
 
 /// Where the run of a valid program, which began without a trace, comes to a frame, an instruction
-/// stands there, and its operands, its handler and its entries of the pools are there.
+/// stands there, and its operands, its cursor, its handler and its entries of the pools are there.
 pub fn provided<S>()
     ensures { (m : Setup S) (this : Option Place) (w v : World S) (f : Frame) →
         IsProgram m.program → w.trace ≡ [] → Comes m (InFrame f) v (called m this w) →
@@ -89,7 +89,7 @@ pub fn bound_places<S>()
 
 /// Where the run of a valid program, which began without a trace, comes to a handler that catches,
 /// either the catch fails with a fault that no script may catch, or the catch block begins, with
-/// exactly as many operands and entries of the scope as there were at the handler's push.
+/// exactly as many operands, cursors and entries of the scope as there were at the handler's push.
 pub fn catches<S>()
     ensures { (m : Setup S) (this : Option Place) (w : World S) (at : CatchPoint S) →
         IsProgram m.program → w.trace ≡ [] → ComesToCatch m at (called m this w) → Catches m at }

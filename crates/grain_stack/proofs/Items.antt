@@ -187,12 +187,14 @@ below_some from to inclusive lt = rw (integer_below from to inclusive lt) refl
 pub last_some : (from to : ℤ) (inclusive : Bool) → from ≡ to →
     not inclusive ≡ is_none (first_of (integers_in from to inclusive))
 last_some from to true at = rw (← at, integer_last from) refl
-last_some from to false at = rw (integers_over from to false (omega (arith, ints)) (λ closed. absurd cc)) refl
+last_some from to false at =
+    rw (integers_over from to false (omega (arith, ints)) (λ closed. absurd cc)) refl
 
 pub past_none : (from to : ℤ) (inclusive : Bool) → to <ℤ from →
     true ≡ is_none (first_of (integers_in from to inclusive))
 past_none from to inclusive lt =
-    rw (integers_over from to inclusive (omega (arith, ints)) (λ closed at. absurd (omega (arith, ints)))) refl
+    rw (integers_over from to inclusive (omega (arith, ints))
+    (λ closed at. absurd (omega (arith, ints)))) refl
 
 -- a value has the cell that its tree is
 pub tree_cell : (d : Dynamic) → cell_of (value_of (tree d)) ≡ cell_of d
@@ -206,7 +208,6 @@ cell_first values n d is = rw (first_at values n (n + 1) (tree d) is refl) (sym 
 -- an item that is no value of a list is no cell
 pub plain_first : (l : Left) → ((values : List Tree) (n : ℕ) → ¬ (l ≡ left.Values values n)) →
     None ≡ first_cell (items_left l)
-unfolding integers_from
 plain_first (left.Values values n) other = absurd (other values n refl)
 plain_first (left.Bytes bytes n) other = bytes_first (drop n bytes) where
   bytes_first : (bs : List ℕ) → None ≡ first_cell (map (λ b. integer (pos b)) bs)

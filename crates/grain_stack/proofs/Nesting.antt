@@ -210,7 +210,8 @@ below_slots slots b xs own (f ∷ fs) le n some room =
 pub room_below : (s : Inside) → IsSound s →
     0 < length (frames_on (take s.bottom s.slots.operands) (belongings s) (floors s)) →
     ((first : StackFrame) (others : List StackFrame) → frames_on (take s.bottom s.slots.operands)
-    (belongings s) (floors s) ≡ first ∷ others → length first.operands < first.room) → s.bottom < s.slots.slots
+    (belongings s) (floors s) ≡ first ∷ others → length first.operands < first.room) →
+    s.bottom < s.slots.slots
 room_below s i some room =
     below_slots s.slots.slots s.bottom s.slots.operands (belongings s) (floors s) i.bottom i.nested
     some room

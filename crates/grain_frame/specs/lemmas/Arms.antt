@@ -128,7 +128,8 @@ module _ {H : Type 0} (law : Law H) (p : View) (engine : Engine) (f : Activation
     }
 
   -- the instruction was done, which keeps the cursors and the handlers
-  pub done : looping_of o ≡ looping.Keep → handling_of o ≡ handling.Keep → op_at p.code f.address ≡ Some (o, width) →
+  pub done : looping_of o ≡ looping.Keep → handling_of o ≡ handling.Keep →
+      op_at p.code f.address ≡ Some (o, width) →
       (n : StepsView) (f' : Activation) (s' : Run H) (n' : StepsView) (host host' : H)
       {r : Result Progress OutOfMemory} →
       Simulates (setup law p engine) (abstraction s n host)

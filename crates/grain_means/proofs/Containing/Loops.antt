@@ -54,7 +54,6 @@ module _ (clean : Bool) (n : ℕ) where
   bytes_name (b ∷ bs) = ((omega arith, λ s. refl), bytes_name bs)
 
   integers_name : (from : ℤ) (k : ℕ) → ItemsName (integers_from from k)
-  unfolding integers_from
   integers_name from zero = tt
   integers_name from (suc k) = ((omega arith, λ s. refl), integers_name (from +ℤ pos 1) k)
 

@@ -174,7 +174,8 @@ module _ {S : Type 0} {m : Setup S} (walk : Walk m) where
               (λ s h at held none. lent t (ts, is, fits) s h at held none)
               (item_given m t ts (n +ℤ pos 1) (f.address + width) f)
               (λ there w s fresh same. even_flat_in walk o width stands (now.ran + 1) w s (value_of t) []
-              (λ none. inl (gives there (t, (ts, is, fits), lent_before now.cells w.cells same (value_of t) none)))
+              (λ none. inl (gives there
+              (t, (ts, is, fits), lent_before now.cells w.cells same (value_of t) none)))
               _
               (λ v. even_onward walk (now.ran + 1)
               (advanced ts (n +ℤ pos 1) (stepped f (f.address + width) (f.operands ++ read_write v ∷ [])))

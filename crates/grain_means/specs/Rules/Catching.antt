@@ -62,8 +62,9 @@ module _ {S : Type 0} (m : Setup S) where
   -- A handler of a frame catches, which has the handlers around it. What the trace had of the frames
   -- that the fault left before is gone. A scope that is shorter than at the handler's push is a fault
   -- of this frame, at its instruction's position. Else the operands, the cursors, the totals and the
-  -- scope are cut, the variable is bound, an operation is charged at the target's position, and the frame goes on there,
-  -- and no step is blamed any more. Until then the step that the caught fault blamed is.
+  -- scope are cut, the variable is bound, an operation is charged at the target's position, and the
+  -- frame goes on there, and no step is blamed any more. Until then the step that the caught fault
+  -- blamed is.
   abbrev pub caught : Frame → Handler → Problem → World S → Act S
   caught f h x w =
       let p = position_of m.program h.target in

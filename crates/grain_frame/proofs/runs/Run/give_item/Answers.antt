@@ -26,46 +26,34 @@ returns-then-is_next_lent g c =
           (λ stop u place. rw (lent_item s.cells s.stacks.cursors t ts first lent) refl);
     }
 
-pub returns-in_err-item : goal.returns-in_err-item
-returns-in_err-item g c =
+pub flat_value-requires : goal.flat_value-requires
+flat_value-requires g c =
+    let free : next_is_lent c.args.self.now ≡ false = search rules in
+    readable_taken c.args.self.now c.take_item-item.new.self c.take_item-item.result _
+    c.take_item-item.ensures free
+
+pub returns-in_err-value : goal.returns-in_err-value
+returns-in_err-value g c =
     let s = c.args.self.now in
     let free : next_is_lent s ≡ false = search rules in
     let out : is_out c.from_residual.result ≡ true = search rules in
     record {
       implements = λ target t ts first host. gives_not g.H.Host.law c.args.context.program.now
           c.args.context.engine.now c.args.frame.now s c.args.steps.now host t ts c.args.count
-          c.args.next target c.take_item.new.self s.stacks.cursors c.from_residual.result out
-          first free c.in_err-item.ensures.unchanged c.requires.begins.inside;
-    }
-
-pub flat_value-requires : goal.flat_value-requires
-flat_value-requires g c =
-    let free : next_is_lent c.args.self.now ≡ false = search rules in
-    readable_taken c.args.self.now c.take_item.new.self c.in_ok-item.item _
-    c.in_ok-item.ensures.taken free
-
-pub returns-in_err-value : goal.returns-in_err-value
-returns-in_err-value g c =
-    let s = c.args.self.now in
-    let free : next_is_lent s ≡ false = search rules in
-    let out : is_out c.from_residual-in_err-value.result ≡ true = search rules in
-    record {
-      implements = λ target t ts first host. gives_not g.H.Host.law c.args.context.program.now
-          c.args.context.engine.now c.args.frame.now s c.args.steps.now host t ts c.args.count
-          c.args.next target c.take_item.new.self c.take_item.new.self.stacks.cursors
-          c.from_residual-in_err-value.result out first free c.in_ok-item.ensures.taken.1
+          c.args.next target c.take_item-item.new.self c.take_item-item.new.self.stacks.cursors
+          c.from_residual.result out first free c.take_item-item.ensures.1
           c.requires.begins.inside;
     }
 
 pub returns : goal.returns
 returns g c =
     let fits : FitsSigned w64 c.args.count = search rules in
-    let taken = rw (to_z-of_z w64 c.args.count fits) at (c.in_ok-item.ensures.taken) in
+    let taken = rw (to_z-of_z w64 c.args.count fits) at (c.take_item-item.ensures) in
     record {
       implements = λ target t ts first host. rw c.mark.ensures (gives g.H.Host.law
           c.args.context.program.now c.args.context.engine.now c.args.frame.now c.args.self.now
-          c.args.steps.now host t ts c.args.count c.args.next target c.take_item.new.self
-          c.in_ok-item.item c.in_ok-value.value c.push.new.self first taken
+          c.args.steps.now host t ts c.args.count c.args.next target c.take_item-item.new.self
+          c.take_item-item.result c.in_ok-value.value c.push.new.self first taken
           c.in_ok-value.ensures c.requires.there
           (rw c.read_write.ensures at c.push.ensures) c.requires.begins);
     }

@@ -11,7 +11,8 @@ returns-then-target-frame g c =
     record {
       implements = rw c.mark.ensures (left_ahead g.H.Host.law c.args.context.program.now
           c.args.context.engine.now f s c.args.steps.now c.args.host.now c.args.target
-          c.pop_cursor-cursor.new.self c.pop_cursor-cursor.result c.pop_cursor-cursor.ensures c.requires.inside ahead);
+          c.pop_cursor-cursor.new.self c.pop_cursor-cursor.result c.pop_cursor-cursor.ensures
+          c.requires.inside ahead);
     }
 
 pub returns-in_err-charge : goal.returns-in_err-charge
