@@ -89,7 +89,8 @@ module _ {H : Type 0} (law : Law H) (p : View) (engine : Engine) (f : Activation
   -- an instruction was tried, perhaps with the one after it, and it is no call
   pub tried_on : (read : op_at p.code f.address ≡ Some (said, width))
       (holds : looping_of o ≡ looping.Keep) (keeps : handling_of o ≡ handling.Keep)
-      (n : StepsView) (f' : Activation) (s' : Run H) (n' : StepsView) (b : Bool) (a : Attempt) → a ≡ attempt_of b →
+      (n : StepsView) (f' : Activation) (s' : Run H) (n' : StepsView) (b : Bool) (a : Attempt) →
+      a ≡ attempt_of b →
       OnTrue b ((host : H) → PerformsOn (setup law p engine) (moment f s n host) o
       (f.address + width) (moment f' s' n' host)) →
       OnFalse b (Unchanged f s n f' s' n') → IsNoCall o →

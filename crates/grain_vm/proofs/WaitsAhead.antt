@@ -26,8 +26,9 @@ use Rattle.grain_vm.proofs.WaitsOn.{led_back, waited}
 
 -- it was done, or it waits, unless memory ran out
 pub turned : {H : Type 0} {law : Law H} {p : View} {engine : Engine} {a b : Moment H} {o : Op}
-    {next : ℕ} → looping_of o ≡ looping.Keep → handling_of o ≡ handling.Keep → StandsAt p a.frame a.run o next →
-    Runs p a.frame a.run → (r : Result Performed OutOfMemory) (x : Result Turn OutOfMemory) →
+    {next : ℕ} → looping_of o ≡ looping.Keep → handling_of o ≡ handling.Keep →
+    StandsAt p a.frame a.run o next → Runs p a.frame a.run →
+    (r : Result Performed OutOfMemory) (x : Result Turn OutOfMemory) →
     x ≡ turn_of r → PerformsOrWaits (setup law p engine) a o next r b →
     StepsHere (setup law p engine) a x b
 turned {H = H} {law} {p} {engine} {a} {b} {o} {next} holds keeps at runs r x is does =
