@@ -86,12 +86,6 @@ all_characters text utf8 = rw (is_utf8-from_IsUtf8 text utf8) refl
 
 -- ---- the integers of a range
 
-integers_none : (z : ℤ) → integers_from z 0 ≡ []
-integers_none z = refl
-
-integers_next : (z : ℤ) (n : ℕ) → integers_from z (suc n) ≡ integer z ∷ integers_from (z +ℤ pos 1) n
-integers_next z n = refl
-
 one_above : (z y : ℤ) → z ≡ y +ℤ pos 1 → pos 0 ≤ℤ y →
     at_least_zero z ≡ suc (at_least_zero y)
 one_above z (pos n) is le =

@@ -1,5 +1,5 @@
-use Rattle.std.proofs.Common.{◌∙◌, List, is_none, map, drop, sym, ap}
-use Rattle.std.specs.Prelude.{nat_le}
+use Rattle.std.proofs.Common.{◌∙◌, pos, is_none, drop, sym, ap}
+use Rattle.grain_value.specs.Tree.{integer}
 use Rattle.grain_stack.specs.Cursors.{items_left}
 use Rattle.grain_stack.specs.Entries.{first_of}
 use Rattle.grain_stack.specs.declared.cursors.Left.{Left}
