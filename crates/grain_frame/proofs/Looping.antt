@@ -187,6 +187,16 @@ module _ {H : Type 0} (law : Law H) (p : View) (engine : Engine) (f : Activation
       stops None items none stop u place halts = absurd cc
       stops (Some ts) items some stop u place halts = rw (read, items, halts) refl
 
+-- a value that was read twice has items both times
+pub some_items : (a b : Dynamic) (o : Option Dynamic) → o ≡ Some a → o ≡ Some b →
+    is_some (items_of a) ≡ true → ¬ (items_of b ≡ None)
+some_items a b o first second some none =
+    let both : Some a ≡ Some b = sym first ∙ second in
+    let same : a ≡ b = cc in
+    let never : true ≡ false =
+    sym some ∙ ap (λ (d : Dynamic). is_some (items_of d)) same ∙ ap is_some none in
+    cc
+
 -- there are none
 pub no_items : (o : Option (List Tree)) → is_some o ≡ false → o ≡ None
 no_items None e = refl

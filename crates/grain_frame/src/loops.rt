@@ -55,7 +55,8 @@ impl<H: Host> Run<H> {
             let fault = EvalAltResult::ErrorFor(Position::NONE);
             return Ok(self.raise_at(context, steps, frame.address, fault));
         }
-        let Ok(cursor) = Cursor::over(self.take_flat()?) else {
+        let operand = self.take_flat()?;
+        let Ok(cursor) = Cursor::over(operand) else {
             unreachable!();
         };
         self.stacks.push_cursor(cursor)?;
