@@ -47,7 +47,7 @@ unreachable-requires g c =
     ≡ Some c.in-Some.value.now = search rules in
     let some : is_some (items_of c.in-Some.value.now) ≡ true = search rules in
     some_items c.in-Some.value.now c.in_ok-operand.operand _ read c.in_ok-operand.ensures.value some
-    c.in_default-cursor.ensures.none
+    c.in_default-over.ensures.none
 
 pub returns-in_err-operand : goal.returns-in_err-operand
 returns-in_err-operand g c =
@@ -58,7 +58,7 @@ returns-in_err-operand g c =
     search rules in
     let some : is_some (items_of c.in-Some.value.now) ≡ true = search rules in
     let out : is_out c.from_residual.result ≡ true = search rules in
-    let same : c.take_flat-operand.new.self ≡ s = search rules in
+    let same : c.take_flat.new.self ≡ s = search rules in
     record {
       performs = λ host. rw same (begins_not g.H.Host.law p c.args.context.engine.now f s
           c.args.steps.now host c.in-Some.value.now c.args.next read c.requires.ready s.stacks
@@ -73,12 +73,12 @@ returns-in_err-push_cursor g c =
     let read : flat s.cells (top s.stacks.operands).value ≡ Some c.in-Some.value.now =
     search rules in
     let some : is_some (items_of c.in-Some.value.now) ≡ true = search rules in
-    let out : is_out c.from_residual-2.result ≡ true = search rules in
+    let out : is_out c.from_residual-in_err-push_cursor.result ≡ true = search rules in
     let taken = c.in_ok-operand.ensures.rest in
     record {
       performs = λ host. rw taken (begins_not g.H.Host.law p c.args.context.engine.now f s
           c.args.steps.now host c.in-Some.value.now c.args.next read c.requires.ready
-          c.push_cursor.new.self (below s.stacks.operands) c.from_residual-2.result out some
+          c.push_cursor.new.self (below s.stacks.operands) c.from_residual-in_err-push_cursor.result out some
           (search rules));
     }
 
