@@ -70,3 +70,30 @@ returns-in-AssignThisOp-default g c =
           c.assign_this_op.result c.of-in-AssignThisOp-default.result
           c.of-in-AssignThisOp-default.ensures c.assign_this_op.ensures.performs;
     }
+
+pub returns-in-CallFnPtrMethod-default : goal.returns-in-CallFnPtrMethod-default
+returns-in-CallFnPtrMethod-default g c =
+    let at =
+    stands g.H.Host.law c.args.context.program.now c.args.context.engine.now c.args.frame.now
+    c.args.run.now c.fetch.result.0 c.fetch.result.0 c.fetch.result.1
+    c.height-depth.result refl c.height-depth.ensures c.requires.runs c.fetch.ensures.verified
+    c.fetch.ensures.read in
+    record { steps = (rw c.in-CallFnPtrMethod-default.is-0 at at, refl) }
+
+pub returns-in-CallFnPtrOnLocal-default : goal.returns-in-CallFnPtrOnLocal-default
+returns-in-CallFnPtrOnLocal-default g c =
+    let at =
+    stands g.H.Host.law c.args.context.program.now c.args.context.engine.now c.args.frame.now
+    c.args.run.now c.fetch.result.0 c.fetch.result.0 c.fetch.result.1
+    c.height-depth.result refl c.height-depth.ensures c.requires.runs c.fetch.ensures.verified
+    c.fetch.ensures.read in
+    record { steps = (rw c.in-CallFnPtrOnLocal-default.is-0 at at, refl) }
+
+pub returns-in-CallFnPtrOnThis-default : goal.returns-in-CallFnPtrOnThis-default
+returns-in-CallFnPtrOnThis-default g c =
+    let at =
+    stands g.H.Host.law c.args.context.program.now c.args.context.engine.now c.args.frame.now
+    c.args.run.now c.fetch.result.0 c.fetch.result.0 c.fetch.result.1
+    c.height-depth.result refl c.height-depth.ensures c.requires.runs c.fetch.ensures.verified
+    c.fetch.ensures.read in
+    record { steps = (rw c.in-CallFnPtrOnThis-default.is-0 at at, refl) }
