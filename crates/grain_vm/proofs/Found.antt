@@ -266,52 +266,42 @@ found_here law p engine f f' s s' n n' o next host host' (Ok (found.Function num
 found_here law p engine f f' s s' n n' o next host host' (Err e) runs at call did =
     arm_bound refl call.keeps at runs did
 
--- the frame has its chunk and its base, whatever its instruction came to
-found_kept : {H : Type 0} (law : Law H) (p : View) (engine : Engine) (f f' : Activation)
-    (s s' : Run H) (n n' : StepsView) (o : Op) (next : ℕ) (host host' : H)
-    (r : Result Found OutOfMemory) → Finds (setup law p engine) (moment f s n host) o next r
-    (moment f' s' n' host') →
-    (f'.chunk ≡ f.chunk) × (f'.base ≡ f.base)
-found_kept law p engine f f' s s' n n' o next host host' (Ok (found.Done q)) did =
-    (did.kept.chunk, did.kept.base)
-found_kept law p engine f f' s s' n n' o next host host' (Ok (found.Function number to)) did =
-    (ap (λ (a : Activation). a.chunk) did.1.frame, ap (λ (a : Activation). a.base) did.1.frame)
-found_kept law p engine f f' s s' n n' o next host host' (Err e) did =
-    (did.kept.chunk, did.kept.base)
+-- what a call of a function by its name comes to
+pub function_pending : {H : Type 0} (law : Law H) (p : View) (engine : Engine) (f : Activation)
+    (s : Run H) (n : StepsView) (number next : ℕ) (host : H) (q : Pending) →
+    q ≡ pending.Function number next → IsPending p f s q →
+    FindsHere (setup law p engine) (moment f s n host) (Ok (found.Function number next))
+    (moment f s n host)
+function_pending law p engine f s n number next host q is waits =
+    let known = subst (λ (k : Pending). IsPending p f s k) is waits in (
+      op.Call known.0 known.1,
+      known.2,
+      record { leads = refl; gives = refl; keeps = refl },
+      named_found law p engine f s n known.0 known.1 next number host known.3 known.4
+          known.2.seen.provides.enough,
+    )
 
--- the same where a copy of the frame was given, from which the frame takes what may have changed
-found_back : {H : Type 0} (law : Law H) (p : View) (engine : Engine) (f f' : Activation)
-    (s s' : Run H) (n n' : StepsView) (o : Op) (next : ℕ) (host host' : H)
-    (r : Result Found OutOfMemory) → Runs p f s → StandsAt p f s o next → IsCall o next →
-    Finds (setup law p engine) (moment f s n host) o next r (moment f' s' n' host') →
-    FindsHere (setup law p engine) (moment f s n host) r (moment (taking f f') s' n' host')
-found_back law p engine f f' s s' n n' o next host host' r runs at call did =
-    let kept = found_kept law p engine f f' s s' n n' o next host host' r did in
-    subst (λ (a : Activation). FindsHere (setup law p engine) (moment f s n host) r
-    (moment a s' n' host')) (taken_back f f' kept.0 kept.1)
-    (found_here law p engine f f' s s' n n' o next host host' r runs at call did)
-
--- what `call` comes to
-pub call_found : {H : Type 0} (law : Law H) (p : View) (engine : Engine) (f f' : Activation)
+-- what `call` comes to where there is no such function
+pub native_pending : {H : Type 0} (law : Law H) (p : View) (engine : Engine) (f f' : Activation)
     (s s' : Run H) (n n' : StepsView) (name count next : ℕ) (host host' : H) (q : Pending)
-    (r : Result Found OutOfMemory) → Runs p f s → q ≡ pending.Call name count next →
+    (r : Result Found OutOfMemory) → Runs p f s → q ≡ pending.Native name count next →
     IsPending p f s q → Finds (setup law p engine) (moment f s n host) (op.Call name count) next r
     (moment f' s' n' host') →
     FindsHere (setup law p engine) (moment f s n host) r (moment f' s' n' host')
-call_found law p engine f f' s s' n n' name count next host host' q r runs is waits did =
+native_pending law p engine f f' s s' n n' name count next host host' q r runs is waits did =
     found_here law p engine f f' s s' n n' (op.Call name count) next host host' r runs
-    (subst (λ (k : Pending). IsPending p f s k) is waits)
+    (subst (λ (k : Pending). IsPending p f s k) is waits).0
     (record { leads = refl; gives = refl; keeps = refl }) did
 
--- what `call_fn_ptr` comes to, on a copy of the frame
-pub pointer_found : {H : Type 0} (law : Law H) (p : View) (engine : Engine) (f f' : Activation)
+-- what `call_fn_ptr` comes to
+pub pointer_pending : {H : Type 0} (law : Law H) (p : View) (engine : Engine) (f f' : Activation)
     (s s' : Run H) (n n' : StepsView) (count next : ℕ) (host host' : H) (q : Pending)
     (r : Result Found OutOfMemory) → Runs p f s → q ≡ pending.Pointer count next →
     IsPending p f s q → Finds (setup law p engine) (moment f s n host) (op.CallFnPtr count) next r
     (moment f' s' n' host') →
-    FindsHere (setup law p engine) (moment f s n host) r (moment (taking f f') s' n' host')
-pointer_found law p engine f f' s s' n n' count next host host' q r runs is waits did =
-    found_back law p engine f f' s s' n n' (op.CallFnPtr count) next host host' r runs
+    FindsHere (setup law p engine) (moment f s n host) r (moment f' s' n' host')
+pointer_pending law p engine f f' s s' n n' count next host host' q r runs is waits did =
+    found_here law p engine f f' s s' n n' (op.CallFnPtr count) next host host' r runs
     (subst (λ (k : Pending). IsPending p f s k) is waits)
     (record { leads = refl; gives = refl; keeps = refl }) did
 
@@ -322,12 +312,12 @@ kept_here m a b (Ok (found.Done q)) did = (did.kept.chunk, did.kept.base)
 kept_here m a b (Ok (found.Function number next)) did = rw did.3.frame (refl, refl)
 kept_here m a b (Err e) did = (did.kept.chunk, did.kept.base)
 
--- what any other comes to, on a copy of the frame
-pub other_found : {H : Type 0} (law : Law H) (p : View) (engine : Engine) (f f' : Activation)
+-- what it comes to on a copy of the frame
+pub found_on_copy : {H : Type 0} (law : Law H) (p : View) (engine : Engine) (f f' : Activation)
     (s s' : Run H) (n n' : StepsView) (host host' : H) (r : Result Found OutOfMemory) →
     FindsHere (setup law p engine) (moment f s n host) r (moment f' s' n' host') →
     FindsHere (setup law p engine) (moment f s n host) r (moment (taking f f') s' n' host')
-other_found law p engine f f' s s' n n' host host' r did =
+found_on_copy law p engine f f' s s' n n' host host' r did =
     let kept = kept_here (setup law p engine) (moment f s n host) (moment f' s' n' host') r did in
     subst (λ (a : Activation). FindsHere (setup law p engine) (moment f s n host) r
     (moment a s' n' host')) (taken_back f f' kept.0 kept.1) did

@@ -78,40 +78,7 @@ fn is_out(outcome: &Result<Dynamic, EvalAltResult>) -> bool
     }
 }
 
-// `call` of a name that no function has: the native of that name, or the fault that an operand is a lent
-// cell. It is done on a copy of the frame, so that the loop can hold its own in registers.
-#[cycle(run)]
-#[inline(always)]
-pub(crate) fn call_native_by_name<H: Host, L: Ledger>(
-    run: &mut Run<H>,
-    context: Context<'_>,
-    host: &mut H,
-    steps: &mut Steps<L>,
-    frame: &mut Activation,
-    name: &Text,
-    count: usize,
-    next: usize,
-) -> Result<Progress, OutOfMemory>
-    requires inside { frame.old.base ≤ length run.old.scope }
-    requires operands { count ≤ length run.old.stacks.operands }
-    requires room { length run.old.stacks.operands - count < run.old.stacks.room }
-    requires ahead { frame.old.address < next }
-    requires none { NoneAbove run.old.level run.old.receivers }
-    ensures implements { ImplementsBound (setup_of H.law context.entry)
-        (moment frame.old run.old steps.old host.old)
-        (λ m place w. call_function m None name.now count (frame_in frame.old run.old place) next w)
-        (next ∷ []) count 1 run.old.stacks.handlers result
-        (moment frame.new run.new steps.new host.new) }
-{
-    let mut copy = *frame;
-    let progress = native_by_name(run, context, host, steps, &mut copy, name, count, next);
-    frame.address = copy.address;
-    frame.floor = copy.floor;
-    frame.slot = copy.slot;
-    progress
-}
-
-// The same on the frame itself.
+// A call of the native of a name, or the fault that an operand is a lent cell.
 #[cycle(run)]
 #[cold]
 #[inline(never)]

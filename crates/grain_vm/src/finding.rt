@@ -1,13 +1,17 @@
 //! What an instruction that is not done at once comes to: it is done, or it calls a function.
 
-ghost use Rattle.std.specs.Prelude.{◌≡◌};
+ghost use Rattle.std.specs.Prelude.{◌≡◌, None};
 ghost use Rattle.grain_program.specs.Indices.{InPools};
-ghost use Rattle.grain_frame.specs.Abstraction.{Ready, setup_of, moment};
-ghost use Rattle.grain_vm.specs.Finding.{Finds, found_of};
+ghost use Rattle.grain_program.specs.Lookups.{function_of};
+ghost use Rattle.grain_frame.specs.Abstraction.{Ready, Runs, setup_of, moment};
+ghost use Rattle.grain_vm.specs.Attempts.{IsPending};
+ghost use Rattle.grain_vm.specs.Finding.{Finds, FindsHere, found_of};
 ghost use Rattle.grain_vm.specs.Methods.{NoneAbove};
 ghost use Rattle.grain_program.specs.declared.code.instruction_set.Op.TheVariants as op;
 
-use crate::asks::{call_native_by_name, native_by_name};
+use crate::asks::native_by_name;
+use crate::attempts::Pending;
+use crate::method_runs::step_or_walk;
 use grain_frame::{Activation, Context, Progress, Run, Under};
 use grain_global::Steps;
 use grain_host::Host;
@@ -34,11 +38,44 @@ impl Found {
     }
 }
 
-// `call`: finds the function of a name with `count` parameters. If there is none, the native of
-// that name is called on the last `count` operands.
+// What a pending instruction comes to. It is not part of the loop, so that what it needs costs the loop
+// no register.
 #[cycle(run)]
-#[inline(always)]
-pub(crate) fn find_named<H: Host, L: Ledger>(
+#[cold]
+#[inline(never)]
+pub(crate) fn find_apart<H: Host, L: Ledger>(
+    run: &mut Run<H>,
+    context: Context<'_>,
+    host: &mut H,
+    steps: &mut Steps<L>,
+    frame: &mut Activation,
+    pending: Pending,
+) -> Result<Found, OutOfMemory>
+    requires runs { Runs context.program.now frame.old run.old }
+    requires none { NoneAbove run.old.level run.old.receivers }
+    requires pending { IsPending context.program.now frame.old run.old pending }
+    ensures finds { FindsHere (setup_of H.law context.entry)
+        (moment frame.old run.old steps.old host.old) result
+        (moment frame.new run.new steps.new host.new) }
+{
+    match pending {
+        Pending::Function { number, next } => Ok(Found::Function { number, next }),
+        Pending::Native { name, count, next } => {
+            find_native(run, context, host, steps, frame, name, count, next)
+        }
+        Pending::Pointer { count, next } => {
+            find_pointed(run, context, host, steps, frame, count, next)
+        }
+        Pending::Other => Found::of(step_or_walk(run, context, host, steps, frame)),
+    }
+}
+
+// `call` of a name that no function has: the native of that name is called on the last `count`
+// operands.
+#[cycle(run)]
+#[cold]
+#[inline(never)]
+fn find_native<H: Host, L: Ledger>(
     run: &mut Run<H>,
     context: Context<'_>,
     host: &mut H,
@@ -50,19 +87,15 @@ pub(crate) fn find_named<H: Host, L: Ledger>(
 ) -> Result<Found, OutOfMemory>
     requires ready { Ready frame.old run.old (op.Call name count) next }
     requires pools { InPools context.program.now (op.Call name count) }
+    requires missing { function_of context.program.now name count ≡ None }
     requires none { NoneAbove run.old.level run.old.receivers }
     ensures finds { Finds (setup_of H.law context.entry)
         (moment frame.old run.old steps.old host.old) (op.Call name count) next result
         (moment frame.new run.new steps.new host.new) }
 {
     let count = usize::from(count);
-    match context.program.function(u32::from(name), count) {
-        Some(number) => Ok(Found::Function { number, next }),
-        None => {
-            let name = context.program.name(u32::from(name));
-            Found::of(call_native_by_name(run, context, host, steps, frame, name, count, next))
-        }
-    }
+    let name = context.program.name(u32::from(name));
+    Found::of(native_by_name(run, context, host, steps, frame, name, count, next))
 }
 
 // `call_fn_ptr`: finds the function that the pointer under the last `count` operands names, with as many

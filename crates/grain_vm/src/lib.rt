@@ -11,6 +11,7 @@ mod calls_back;
 mod catching;
 mod chain_operands;
 mod chains;
+mod curried;
 mod driving;
 mod finding;
 mod loaded;

@@ -16,8 +16,7 @@ ghost use Rattle.grain_program.specs.Indices.{IsNamed};
 use crate::attempts::{Attempt, Pending, quick};
 use crate::calls::{FrameEnd, enter_function, leave_by_fault, resume_caller};
 use crate::catching::catch;
-use crate::finding::{Found, find_named, find_pointed};
-use crate::method_runs::step_or_walk;
+use crate::finding::{Found, find_apart};
 use crate::stepping::jump;
 use grain_frame::{Activation, Context, Progress, Run};
 use grain_global::Steps;
@@ -87,8 +86,8 @@ pub(crate) fn call<H: Host, L: Ledger>(
 }
 
 // Does the instruction at which the frame stands and that `quick` did not do; if it calls a function,
-// says which. `step_or_walk` and `find_pointed` get a copy of the frame, so that the loop can keep its
-// own in registers, and only the fields that they can change are copied back.
+// says which. All but a call by a function's name is done on a copy of the frame, so that the loop can
+// keep its own in registers, and only the fields that may change are copied back.
 #[cycle(run)]
 #[inline(always)]
 fn do_or_find<H: Host, L: Ledger>(
@@ -106,27 +105,15 @@ fn do_or_find<H: Host, L: Ledger>(
         (moment frame.old run.old steps.old host.old) result
         (moment frame.new run.new steps.new host.new) }
 {
-    match pending {
-        Pending::Call { name, count, next } => {
-            find_named(run, context, host, steps, frame, name, count, next)
-        }
-        Pending::Pointer { count, next } => {
-            let mut copy = *frame;
-            let found = find_pointed(run, context, host, steps, &mut copy, count, next);
-            frame.address = copy.address;
-            frame.floor = copy.floor;
-            frame.slot = copy.slot;
-            found
-        }
-        Pending::Other => {
-            let mut copy = *frame;
-            let progress = step_or_walk(run, context, host, steps, &mut copy);
-            frame.address = copy.address;
-            frame.floor = copy.floor;
-            frame.slot = copy.slot;
-            Found::of(progress)
-        }
+    if let Pending::Function { number, next } = pending {
+        return Ok(Found::Function { number, next });
     }
+    let mut copy = *frame;
+    let found = find_apart(run, context, host, steps, &mut copy, pending);
+    frame.address = copy.address;
+    frame.floor = copy.floor;
+    frame.slot = copy.slot;
+    found
 }
 
 // Does the instruction at which the frame stands and that `quick` did not do.

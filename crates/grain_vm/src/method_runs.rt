@@ -321,6 +321,29 @@ pub(crate) fn call_method<H: Host, L: Ledger>(
     ensures took { TookOne context.entry.engine.now run.old result.0 run.new }
     ensures before { steps.new.before ≡ steps.old.before }
 {
+    run_method(run, context, host, steps, call)
+}
+
+// The same, built into its caller, where a call that has no receiver needs none of its steps.
+#[cycle(run)]
+#[inline(always)]
+pub(crate) fn run_method<H: Host, L: Ledger>(
+    run: &mut Run<H>,
+    context: Context<'_>,
+    host: &mut H,
+    steps: &mut Steps<L>,
+    call: MethodCall,
+) -> Outcome
+    requires there { HasFunction context.program.now call }
+    requires none { NoneAbove run.old.level run.old.receivers }
+    ensures called { (g : Function) → slice_get context.entry.program.now.functions call.number ≡ Some g →
+        CallsMethod (setup_of H.law context.entry) call g run.old steps.old host.old result.0 result.1
+        run.new steps.new host.new }
+    ensures over { MethodOver run.old run.new }
+    ensures lent { SameFlag call.receiver result.1 }
+    ensures took { TookOne context.entry.engine.now run.old result.0 run.new }
+    ensures before { steps.new.before ≡ steps.old.before }
+{
     let pos = call.pos;
     let function = context.program.function_at(call.number);
     match enter_method(run, context, host, steps, function, call) {

@@ -5,7 +5,7 @@ use Rattle.grain_vm.specs.Driving.{IsApart}
 use Rattle.grain_vm.specs.Methods.{NoneAbove, given_to}
 use Rattle.grain_frame.specs.declared.waiting.Performed.TheVariants as performed
 use Rattle.grain_frame.specs.lemmas.Bound.{as_bound}
-use Rattle.grain_vm.proofs.Found.{call_found, done_here, found_stepped, is_function, other_found, pointer_found, finds_of, named_found, call_refused, none_numbered, pointed_done, pointed_found}
+use Rattle.grain_vm.proofs.Found.{done_here, found_on_copy, found_stepped, function_pending, is_function, native_pending, pointer_pending, finds_of, named_found, call_refused, none_numbered, pointed_done, pointed_found}
 use Rattle.grain_vm.proofs.Calling.{call_ran, has_begun, not_begun, entered_with, kept_with, refused_here, refused_this, there_is, outer_is}
 use Rattle.grain_vm.proofs.ChainAhead.{chain_stepped}
 use Rattle.grain_vm.proofs.ReceiverAhead.{receiver_stepped}
@@ -38,14 +38,14 @@ use Rattle.grain_vm.proofs.OnFrames.{callee_out, callee_refused, finds_on_of, fi
 use Rattle.grain_vm.proofs.OnCalls.{call_out, function_done, native_done}
 use Rattle.grain_vm.specs.declared.natives.OnReceiver.TheVariants as on
 use Rattle.grain_vm.proofs.EndedOn.{apart_so, cells_over, ended_cell, ended_plain, left_there}
-use Rattle.grain_vm.proofs.NamedNatives.{it_ended, it_led, it_waits, named_done, on_copy, pointed_out, waited}
+use Rattle.grain_vm.proofs.NamedNatives.{it_ended, it_led, it_waits, named_done, pointed_out, waited}
 use Rattle.grain_program.specs.declared.code.instruction_set.Op.TheVariants as op
 use Rattle.grain_means.specs.Rules.{function_found, call_function, function_by_name, operand_under, race_text}
 use Rattle.grain_value.specs.Cells.{flat}
 use Rattle.grain_value.specs.Operands.{arguments, read_write, under}
 use Rattle.grain_value.specs.Writing.{type_name_of}
 use Rattle.grain_fault.specs.Problems.{Plain, DataRace, MismatchDataType}
-use Rattle.grain_program.specs.Lookups.{CalledByText, function_by_text}
+use Rattle.grain_program.specs.Lookups.{CalledByText, function_by_text, function_of}
 use Rattle.grain_stack.specs.Views.{StacksView}
 use Rattle.grain_means.specs.Simulation.{stopped, world}
 use Rattle.grain_frame.specs.declared.runs.Run.{Run}
@@ -277,38 +277,58 @@ loops::run_frame-frame-preserved g t c =
     c.in-Ok.ensures.catches c.in-Ok.ensures.around c.in-Some.is (offers.goes at refl refl refl)
     offers.kept (offers.typed at) c.catch.ensures.before
 
-pub loops::do_or_find-returns-in-Call : goal.loops::do_or_find-returns-in-Call
-loops::do_or_find-returns-in-Call g t c =
-    let found = c.find_named in
+pub loops::do_or_find-returns-in-Function : goal.loops::do_or_find-returns-in-Function
+loops::do_or_find-returns-in-Function g t c = record {
+  finds = function_pending g.H.Host.law c.args.context.program.now c.args.context.engine.now
+      c.args.frame.now c.args.run.now c.args.steps.now c.in-Function.number c.in-Function.next
+      c.args.host.now c.args.pending c.in-Function.is c.requires.pending;
+}
+
+pub loops::do_or_find-returns : goal.loops::do_or_find-returns
+loops::do_or_find-returns g t c =
+    let found = c.find_apart-found in
     record {
-      finds = call_found g.H.Host.law c.args.context.program.now c.args.context.engine.now
+      finds = found_on_copy g.H.Host.law c.args.context.program.now c.args.context.engine.now
           c.args.frame.now found.new.frame c.args.run.now found.new.run c.args.steps.now
-          found.new.steps c.in-Call.name c.in-Call.count c.in-Call.next c.args.host.now
-          found.new.host c.args.pending found.result c.requires.runs c.in-Call.is c.requires.pending
-          found.ensures.finds;
+          found.new.steps c.args.host.now found.new.host found.result found.ensures.finds;
     }
 
-pub loops::do_or_find-returns-in-Pointer : goal.loops::do_or_find-returns-in-Pointer
-loops::do_or_find-returns-in-Pointer g t c =
-    let found = c.find_pointed-found in
+pub finding::find_apart-returns-in-Function : goal.finding::find_apart-returns-in-Function
+finding::find_apart-returns-in-Function g t c = record {
+  finds = function_pending g.H.Host.law c.args.context.program.now c.args.context.engine.now
+      c.args.frame.now c.args.run.now c.args.steps.now c.in-Function.number c.in-Function.next
+      c.args.host.now c.args.pending c.in-Function.is c.requires.pending;
+}
+
+pub finding::find_apart-returns-in-Native : goal.finding::find_apart-returns-in-Native
+finding::find_apart-returns-in-Native g t c =
+    let found = c.find_native in
     record {
-      finds = pointer_found g.H.Host.law c.args.context.program.now c.args.context.engine.now
+      finds = native_pending g.H.Host.law c.args.context.program.now c.args.context.engine.now
+          c.args.frame.now found.new.frame c.args.run.now found.new.run c.args.steps.now
+          found.new.steps c.in-Native.name c.in-Native.count c.in-Native.next c.args.host.now
+          found.new.host c.args.pending found.result c.requires.runs c.in-Native.is
+          c.requires.pending found.ensures.finds;
+    }
+
+pub finding::find_apart-returns-in-Pointer : goal.finding::find_apart-returns-in-Pointer
+finding::find_apart-returns-in-Pointer g t c =
+    let found = c.find_pointed in
+    record {
+      finds = pointer_pending g.H.Host.law c.args.context.program.now c.args.context.engine.now
           c.args.frame.now found.new.frame c.args.run.now found.new.run c.args.steps.now
           found.new.steps c.in-Pointer.count c.in-Pointer.next c.args.host.now found.new.host
           c.args.pending found.result c.requires.runs c.in-Pointer.is c.requires.pending
           found.ensures.finds;
     }
 
-pub loops::do_or_find-returns-in-Other : goal.loops::do_or_find-returns-in-Other
-loops::do_or_find-returns-in-Other g t c =
-    let did = c.step_or_walk-progress in
+pub finding::find_apart-returns-in-Other : goal.finding::find_apart-returns-in-Other
+finding::find_apart-returns-in-Other g t c =
+    let did = c.step_or_walk in
     rw c.of.ensures (record {
-      finds = other_found g.H.Host.law c.args.context.program.now c.args.context.engine.now
+      finds = done_here g.H.Host.law c.args.context.program.now c.args.context.engine.now
           c.args.frame.now did.new.frame c.args.run.now did.new.run c.args.steps.now did.new.steps
-          c.args.host.now did.new.host (found_of did.result)
-          (done_here g.H.Host.law c.args.context.program.now c.args.context.engine.now
-          c.args.frame.now did.new.frame c.args.run.now did.new.run c.args.steps.now did.new.steps
-          c.args.host.now did.new.host did.result did.ensures.stepped);
+          c.args.host.now did.new.host did.result did.ensures.stepped;
     })
 
 pub method_runs::step_or_walk-returns-in-Waits : goal.method_runs::step_or_walk-returns-in-Waits
@@ -376,8 +396,8 @@ loops::run_from-turn-init g t c = runs_here c.requires.runs c.requires.none
 
 -- ---- functions that a walk calls
 
-pub method_runs::call_method-returns-in-Err : goal.method_runs::call_method-returns-in-Err
-method_runs::call_method-returns-in-Err g t c =
+pub method_runs::run_method-returns-in-Err : goal.method_runs::run_method-returns-in-Err
+method_runs::run_method-returns-in-Err g t c =
     let m = setup g.H.Host.law c.args.context.program.now c.args.context.engine.now in
     let found = c.function_at-function in
     let o = c.in-Err.refused in
@@ -396,8 +416,8 @@ method_runs::call_method-returns-in-Err g t c =
       before = c.enter_method.ensures.before;
     }
 
-pub method_runs::call_method-returns-in-Ok : goal.method_runs::call_method-returns-in-Ok
-method_runs::call_method-returns-in-Ok g t c =
+pub method_runs::run_method-returns-in-Ok : goal.method_runs::run_method-returns-in-Ok
+method_runs::run_method-returns-in-Ok g t c =
     let m = setup g.H.Host.law c.args.context.program.now c.args.context.engine.now in
     let found = c.function_at-function in
     let entered = c.enter_method.new in
@@ -732,16 +752,17 @@ method_runs::call_on-returns-in-Native g t c =
           ended.ensures.implements ended.ensures.carries;
     }
 
-pub finding::find_named-returns-in-None : goal.finding::find_named-returns-in-None
-finding::find_named-returns-in-None g t c =
+pub finding::find_native-returns : goal.finding::find_native-returns
+finding::find_native-returns g t c =
     let p = c.args.context.program.now in
     let engine = c.args.context.engine.now in
     let s = c.args.run.now in
     let f = c.args.frame.now in
-    let none : function_found p c.args.name c.args.count ≡ None = search rules in
+    let none : function_found p c.args.name c.args.count ≡ None =
+    none_numbered p (function_of p c.args.name c.args.count) (sym c.requires.missing) in
     let named : c.name-name.result.now ≡ name_of p c.args.name =
-    c.name-name.ensures ∙ ap (name_of p) c.from-in-None.ensures in
-    let did = c.call_native_by_name in
+    c.name-name.ensures ∙ ap (name_of p) c.from-name.ensures in
+    let did = c.native_by_name in
     rw c.of.ensures (record {
       finds = finds_of g.H.Host.law p engine f did.new.frame s did.new.run c.args.steps.now
           did.new.steps (op.Call c.args.name c.args.count) c.args.next c.args.host.now did.new.host
@@ -751,19 +772,6 @@ finding::find_named-returns-in-None g t c =
           c.name-name.result.now c.from-count.result none named c.from-count.ensures
           did.ensures.implements);
     })
-
-pub finding::find_named-returns-in-Some : goal.finding::find_named-returns-in-Some
-finding::find_named-returns-in-Some g t c = record {
-  finds = (
-    refl,
-    named_found g.H.Host.law c.args.context.program.now c.args.context.engine.now
-        c.args.frame.now c.args.run.now c.args.steps.now c.args.name c.args.count c.args.next
-        c.in-Some.number c.args.host.now
-        (rw (c.from.ensures, c.from-count.ensures) at c.in-Some.ensures.exact)
-        (rw (c.from.ensures, c.from-count.ensures) at c.in-Some.ensures.called)
-        c.requires.ready.operands,
-  );
-}
 
 pub finding::find_pointed-returns-in-Lent : goal.finding::find_pointed-returns-in-Lent
 finding::find_pointed-returns-in-Lent g t c =
@@ -1084,14 +1092,6 @@ asks::native_by_name-returns-in-Waits g t c = record {
       c.in_ok-progress.ensures.implements) c.wait_for_native.result c.wait_for_native.ensures.goes;
 }
 
-pub asks::call_native_by_name-returns : goal.asks::call_native_by_name-returns
-asks::call_native_by_name-returns g t c =
-    let did = c.native_by_name-progress in
-    record {
-      implements = on_copy did.new.frame did.new.run did.new.steps did.new.host
-          did.ensures.implements;
-    }
-
 -- ---- calls that natives ask for
 
 pub calls_back::call_back-returns-in-Err : goal.calls_back::call_back-returns-in-Err
@@ -1110,7 +1110,7 @@ calls_back::call_back-returns-in-Function g t c =
     let m = setup g.H.Host.law c.args.context.program.now c.args.context.engine.now in
     let found = subst (λ (n : Needed). FindsBack m.program m.engine c.args.pos c.args.pointer
     c.args.values (Ok n)) c.in-Function.is c.in-Ok.ensures in
-    let called = c.call_method-outcome in
+    let called = c.run_method-outcome in
     record {
       called = back_called m c.args.pos c.args.pointer c.args.values c.args.run.now called.new.run
           c.args.steps.now called.new.steps c.args.host.now called.new.host called.result.0

@@ -18,7 +18,10 @@ abbrev pub decreases-loops::call : goal.decreases-loops::call
 decreases-loops::call g l = 16 * left l.context.engine.now l.run.now.count l.frame.now.address
 
 abbrev pub decreases-method_runs::call_method : goal.decreases-method_runs::call_method
-decreases-method_runs::call_method g l = 16 * left l.context.engine.now l.run.now.count 16777216
+decreases-method_runs::call_method g l = 16 * left l.context.engine.now l.run.now.count 16777216 + 1
+
+abbrev pub decreases-method_runs::run_method : goal.decreases-method_runs::run_method
+decreases-method_runs::run_method g l = 16 * left l.context.engine.now l.run.now.count 16777216
 
 abbrev pub decreases-calls_back::native_back : goal.decreases-calls_back::native_back
 decreases-calls_back::native_back g l = 16 * left l.context.engine.now l.run.now.count 16777216 + 1
@@ -45,17 +48,13 @@ abbrev pub decreases-asks::native_by_name : goal.decreases-asks::native_by_name
 decreases-asks::native_by_name g l =
     16 * left l.context.engine.now l.run.now.count l.frame.now.address + 6
 
-abbrev pub decreases-asks::call_native_by_name : goal.decreases-asks::call_native_by_name
-decreases-asks::call_native_by_name g l =
-    16 * left l.context.engine.now l.run.now.count l.frame.now.address + 7
-
 abbrev pub decreases-finding::find_pointed : goal.decreases-finding::find_pointed
 decreases-finding::find_pointed g l =
     16 * left l.context.engine.now l.run.now.count l.frame.now.address + 7
 
-abbrev pub decreases-finding::find_named : goal.decreases-finding::find_named
-decreases-finding::find_named g l =
-    16 * left l.context.engine.now l.run.now.count l.frame.now.address + 8
+abbrev pub decreases-finding::find_native : goal.decreases-finding::find_native
+decreases-finding::find_native g l =
+    16 * left l.context.engine.now l.run.now.count l.frame.now.address + 7
 
 abbrev pub decreases-method_runs::walk_chain : goal.decreases-method_runs::walk_chain
 decreases-method_runs::walk_chain g l =
@@ -81,21 +80,25 @@ abbrev pub decreases-method_runs::step_or_walk : goal.decreases-method_runs::ste
 decreases-method_runs::step_or_walk g l =
     16 * left l.context.engine.now l.run.now.count l.frame.now.address + 10
 
+abbrev pub decreases-finding::find_apart : goal.decreases-finding::find_apart
+decreases-finding::find_apart g l =
+    16 * left l.context.engine.now l.run.now.count l.frame.now.address + 11
+
 abbrev pub decreases-loops::do_or_find : goal.decreases-loops::do_or_find
 decreases-loops::do_or_find g l =
-    16 * left l.context.engine.now l.run.now.count l.frame.now.address + 11
+    16 * left l.context.engine.now l.run.now.count l.frame.now.address + 12
 
 abbrev pub decreases-loops::proceed : goal.decreases-loops::proceed
 decreases-loops::proceed g l =
-    16 * left l.context.engine.now l.run.now.count l.frame.now.address + 12
+    16 * left l.context.engine.now l.run.now.count l.frame.now.address + 13
 
 abbrev pub decreases-loops::run_from : goal.decreases-loops::run_from
 decreases-loops::run_from g l =
-    16 * left l.context.engine.now l.run.now.count l.address + 13
+    16 * left l.context.engine.now l.run.now.count l.address + 14
 
 abbrev pub decreases-loops::run_frame : goal.decreases-loops::run_frame
 decreases-loops::run_frame g l =
-    16 * left l.context.engine.now l.run.now.count l.chunk.now.entry + 14
+    16 * left l.context.engine.now l.run.now.count l.chunk.now.entry + 15
 
 -- the walk so far, against where the chain began
 abbrev pub invariant-method_runs::walk_chain-calls : goal.invariant-method_runs::walk_chain-calls
