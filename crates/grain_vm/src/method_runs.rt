@@ -24,7 +24,7 @@ use crate::loops::{call, run_frame};
 use crate::methods::{MethodCall, Needed, Outcome, enter_method, leave_method};
 use crate::receiver_ends::end_on;
 use crate::receivers::{Callee, Destination, find_callee, take_call};
-use crate::stepping::{Turn, step};
+use crate::stepping::{Turn, step, step_plain};
 use crate::walk_natives::native_in_walk;
 use grain_frame::{Activation, Context, Progress, Run};
 use grain_global::Steps;
@@ -33,12 +33,37 @@ use grain_program::Function;
 use grain_value::{FnPtr, OutOfMemory};
 use std::sync::ledger::Ledger;
 
-// Does the instruction at which the frame stands, which is neither `call` nor `call_fn_ptr`. It is not
-// part of the loop, so that what a chain needs costs the loop no register.
+// Does the instruction at which the frame stands, which is neither `call` nor `call_fn_ptr`.
 #[cycle(run)]
 #[cold]
 #[inline(never)]
 pub(crate) fn step_or_walk<H: Host, L: Ledger>(
+    run: &mut Run<H>,
+    context: Context<'_>,
+    host: &mut H,
+    steps: &mut Steps<L>,
+    frame: &mut Activation,
+) -> Result<Progress, OutOfMemory>
+    requires runs { Runs context.program.now frame.old run.old }
+    requires none { NoneAbove run.old.level run.old.receivers }
+    requires calls_nothing { CallsNothing context.program.now frame.old }
+    ensures stepped { Stepped (setup_of H.law context.entry)
+        (moment frame.old run.old steps.old host.old) result
+        (moment frame.new run.new steps.new host.new) }
+{
+    match step_plain(run, context, host, steps, frame) {
+        Err(e) => Err(e),
+        Ok(Some(progress)) => Ok(progress),
+        Ok(None) => walk_or_wait(run, context, host, steps, frame),
+    }
+}
+
+// The same, in a function of its own: what a chain needs, or an instruction that waits for a native, costs
+// a plain instruction nothing.
+#[cycle(run)]
+#[cold]
+#[inline(never)]
+fn walk_or_wait<H: Host, L: Ledger>(
     run: &mut Run<H>,
     context: Context<'_>,
     host: &mut H,

@@ -6,6 +6,7 @@ use Rattle.grain_vm.specs.Methods.{NoneAbove, given_to}
 use Rattle.grain_frame.specs.declared.waiting.Performed.TheVariants as performed
 use Rattle.grain_frame.specs.lemmas.Bound.{as_bound}
 use Rattle.grain_vm.proofs.Found.{done_here, found_on_copy, found_stepped, function_pending, is_function, native_pending, pointer_pending, finds_of, named_found, call_refused, none_numbered, pointed_done, pointed_found}
+use Rattle.grain_vm.proofs.Plain.{stepped_from}
 use Rattle.grain_vm.proofs.Calling.{call_ran, has_begun, not_begun, entered_with, kept_with, refused_here, refused_this, there_is, outer_is}
 use Rattle.grain_vm.proofs.ChainAhead.{chain_stepped}
 use Rattle.grain_vm.proofs.ReceiverAhead.{receiver_stepped}
@@ -331,8 +332,20 @@ finding::find_apart-returns-in-Other g t c =
           c.args.host.now did.new.host did.result did.ensures.stepped;
     })
 
-pub method_runs::step_or_walk-returns-in-Waits : goal.method_runs::step_or_walk-returns-in-Waits
-method_runs::step_or_walk-returns-in-Waits g t c =
+pub method_runs::step_or_walk-returns-in-None : goal.method_runs::step_or_walk-returns-in-None
+method_runs::step_or_walk-returns-in-None g t c =
+    let did = c.step_plain.new in
+    let walked = c.walk_or_wait in
+    record {
+      stepped = stepped_from g.H.Host.law c.args.context.program.now c.args.context.engine.now
+          c.args.frame.now did.frame c.args.run.now did.run c.args.steps.now did.steps
+          c.args.host.now did.host
+          (moment walked.new.frame walked.new.run walked.new.steps walked.new.host) walked.result
+          c.in-None.ensures.steps walked.ensures.stepped;
+    }
+
+pub method_runs::walk_or_wait-returns-in-Waits : goal.method_runs::walk_or_wait-returns-in-Waits
+method_runs::walk_or_wait-returns-in-Waits g t c =
     let did = c.step.new in
     let waited = c.wait_for_native in
     record {
@@ -342,8 +355,8 @@ method_runs::step_or_walk-returns-in-Waits g t c =
           c.in-Ok.ensures.steps c.requires.runs waited.ensures.goes;
     }
 
-pub method_runs::step_or_walk-returns-in-Chain : goal.method_runs::step_or_walk-returns-in-Chain
-method_runs::step_or_walk-returns-in-Chain g t c =
+pub method_runs::walk_or_wait-returns-in-Chain : goal.method_runs::walk_or_wait-returns-in-Chain
+method_runs::walk_or_wait-returns-in-Chain g t c =
     let did = c.step.new in
     let walked = c.walk_chain in
     record {
@@ -355,8 +368,8 @@ method_runs::step_or_walk-returns-in-Chain g t c =
           walked.ensures.performs;
     }
 
-pub method_runs::step_or_walk-returns-in-Receiver : goal.method_runs::step_or_walk-returns-in-Receiver
-method_runs::step_or_walk-returns-in-Receiver g t c =
+pub method_runs::walk_or_wait-returns-in-Receiver : goal.method_runs::walk_or_wait-returns-in-Receiver
+method_runs::walk_or_wait-returns-in-Receiver g t c =
     let did = c.step.new in
     let called = c.call_with in
     record {
