@@ -29,6 +29,7 @@ use std::sync::ledger::Ledger;
 
 // What the host hears of a call that it asked for: the value as it is read, or the fault. A fault that the
 // host does not hear of is given apart.
+#[inline(always)]
 pub(crate) fn told<H: Host, L: Ledger>(
     run: &Run<H>,
     steps: &mut Steps<L>,
@@ -53,6 +54,7 @@ pub(crate) fn told<H: Host, L: Ledger>(
 }
 
 // The host hears of a fault if a script may catch it and the host may answer it.
+#[inline(never)]
 fn fault_told(fault: EvalAltResult) -> Result<Result<Dynamic, HostFault>, EvalAltResult>
     ensures { result ≡ told_fault fault }
 {
@@ -67,8 +69,7 @@ fn fault_told(fault: EvalAltResult) -> Result<Result<Dynamic, HostFault>, EvalAl
 
 // Calls what a pointer names that a native asks for: a function of the program, or else a native.
 #[cycle(run)]
-#[cold]
-#[inline(never)]
+#[inline(always)]
 pub(crate) fn call_back<H: Host, L: Ledger>(
     run: &mut Run<H>,
     context: Context<'_>,
