@@ -8,21 +8,18 @@ use Rattle.grain_means.specs.Means.{Finish}
 use Rattle.grain_listing.specs.Reading.{ListingView, reads}
 use Rattle.grain_listing.specs.declared.reasons.BadLine.{BadLine}
 use Rattle.grain_streams.specs.Streams.{added}
+use Rattle.grain_commands.proofs.Completed.{same_set_up}
 use Rattle.grain_commands.specs.Headline.{CoreListing, CoreEnds, PrintsCoreEnd}
 use Rattle.grain_commands.specs.Replies.{Counts, is_run}
 use Rattle.grain_commands.specs.Runs.{answer_report, report, status_of}
 use Rattle.grain_commands.specs.Statuses.{RunEnds, IsRefused, Says, Beside, Gives, NoneRose, Completes}
-
--- a listing says one thing
-same_set_up : (bytes : List ℕ) (s t : ListingView) → reads bytes ≡ Ok s → reads bytes ≡ Ok t → t ≡ s
-same_set_up bytes s t one other = cc
 
 -- an end of the listing's run is one of the core program
 core_end : (bytes : List ℕ) (listing : CoreListing bytes) (end : Finish TableHost) →
     RunEnds bytes end → CoreEnds listing.set_up end
 core_end bytes listing end run =
     subst (λ (s : ListingView). CoreEnds s end)
-    (same_set_up bytes listing.set_up run.set_up listing.said run.said)
+    (same_set_up (reads bytes) listing.set_up run.set_up listing.said run.said)
     (run.instructions, run.means)
 
 -- and the other way round
@@ -73,7 +70,8 @@ module _ (words : List (List ℕ)) (input before now : Option (List ℕ)) (bytes
   no_refusal r h =
       let refused = of_bytes input bytes (λ b. IsRefused b r) told h in
       refused.invalid (subst (λ (s : ListingView). IsProgram s.parts)
-      (sym (same_set_up bytes listing.set_up refused.set_up listing.said refused.said)) listing.valid)
+      (sym (same_set_up (reads bytes) listing.set_up refused.set_up listing.said refused.said))
+      listing.valid)
 
   tells : (status : ℕ) (text : List ℕ) → status ≤ 4 → Says words input status text →
       Told status text

@@ -939,7 +939,8 @@ asks::wait_for_native-natives-init g t c =
     (moment c.args.frame.now c.args.run.now c.args.steps.now c.args.host.now) c.args.waiting
     c.requires.runs c.requires.none
 
-pub asks::wait_for_native-native_over-requires-clause-leads : goal.asks::wait_for_native-native_over-requires-clause-leads
+pub asks::wait_for_native-native_over-requires-clause-leads :
+    goal.asks::wait_for_native-native_over-requires-clause-leads
 asks::wait_for_native-native_over-requires-clause-leads g t c =
     let waits = c.natives.invariant.waits in
     let ended = c.end_of_native-outcome in (
