@@ -1,5 +1,5 @@
 -- What a native asks for is a function of the program, or else a native.
-use Rattle.std.proofs.Common.{◌≡◌, ◌∙◌, ◌+◌, ◌++◌, ◌∷◌, ℕ, List, [], Option, Some, None, Bool, true, false, Result, Ok, Err, if◌then◌else◌, length, length-append, map, nat_lt, refl, sym, ap, subst, arith}
+use Rattle.std.proofs.Common.{◌≡◌, ◌∙◌, ◌+◌, ◌++◌, ◌∷◌, ℕ, List, [], Option, Some, None, Bool, true, false, Result, Ok, Err, if◌then◌else◌, length, map, nat_lt, refl, sym, ap, subst, arith}
 use Rattle.std.specs.Prelude.{slice_get}
 use Rattle.grain_value.specs.Operands.{read_write}
 use Rattle.grain_value.specs.Tree.{Tree}
@@ -11,7 +11,7 @@ use Rattle.grain_fault.specs.Problems.{NoMemory}
 use Rattle.grain_fault.specs.declared.faults.EvalAltResult.{EvalAltResult}
 use Rattle.grain_fault.specs.declared.faults.EvalAltResult.TheVariants as fault
 use Rattle.grain_fault.specs.declared.places.Position.{Position}
-use Rattle.grain_program.specs.Lookups.{CalledByText, function_by_text}
+use Rattle.grain_program.specs.Lookups.{function_by_text}
 use Rattle.grain_program.specs.View.{View}
 use Rattle.grain_program.specs.declared.code.functions.Function.{Function}
 use Rattle.grain_global.specs.StepsView.{StepsView}
@@ -24,7 +24,6 @@ use Rattle.grain_means.specs.Simulation.{puts, stopped, world}
 use Rattle.grain_means.specs.lemmas.Roots.{puts-bound}
 use Rattle.grain_means.specs.lemmas.Stretches.{same}
 use Rattle.grain_chain.specs.declared.requests.Request.{Request}
-use Rattle.grain_chain.specs.declared.requests.What.TheVariants as what
 use Rattle.grain_frame.specs.Waiting.{beside}
 use Rattle.grain_frame.specs.declared.runs.Run.{Run}
 use Rattle.grain_vm.specs.Asks.{CallsBack, IsCallback}
@@ -34,64 +33,6 @@ use Rattle.grain_vm.specs.Methods.{CallsMethod, given_to}
 use Rattle.grain_vm.specs.declared.methods.MethodCall.{MethodCall}
 use Rattle.grain_vm.specs.declared.methods.Needed.TheVariants as needed
 use Rattle.grain_vm.proofs.Followed.{alike}
-
--- ---- what is called
-
-may_call : (b : Bool) (o : Option ℕ) (number : ℕ) → Some number ≡ (if b then o else None) →
-    (b ≡ true) × (o ≡ Some number)
-may_call true o number e = (refl, sym e)
-may_call false o number e = absurd cc
-
-none_called : (b : Bool) (o : Option ℕ) → None ≡ (if b then o else None) → b ≡ true → o ≡ None
-none_called true o e yes = sym e
-none_called false o e yes = absurd cc
-
--- a function
-pub finds_function : (p : View) (engine : Engine) (q : Position) (f : FnPtr) (ts all : List Tree)
-    (number : ℕ) → Some number ≡ (if engine.callbacks
-    then function_by_text p f.name (length f.curry + length ts) else None) →
-    CalledByText p f.name (length f.curry + length ts) number → all ≡ f.curry ++ ts →
-    FindsBack p engine q f ts (Ok (needed.Function (record {
-      number = number;
-      pos = q;
-      receiver = None;
-      arguments = all;
-    })))
-finds_function p engine q f ts all number e called is =
-    let may = may_call engine.callbacks (function_by_text p f.name (length f.curry + length ts)) number e
-    in (
-      record {
-        function = called.function;
-        is = called.is;
-        count = called.count_is ∙ sym (length-append f.curry ts)
-            ∙ ap (λ (us : List Tree). length us) (sym is);
-      },
-      may.0,
-      may.1,
-      refl,
-      refl,
-      is,
-    )
-
--- a native
-pub finds_native : (p : View) (engine : Engine) (q : Position) (f : FnPtr) (ts all : List Tree) →
-    None ≡ (if engine.callbacks
-    then function_by_text p f.name (length f.curry + length ts) else None) → all ≡ f.curry ++ ts →
-    FindsBack p engine q f ts (Ok (needed.Native (record {
-      step = 0;
-      pos = q;
-      what = what.Native f.name;
-      receiver = None;
-      arguments = all;
-    })))
-finds_native p engine q f ts all e is = (
-  none_called engine.callbacks (function_by_text p f.name (length f.curry + length ts)) e,
-  tt,
-  refl,
-  refl,
-  refl,
-  is,
-)
 
 -- ---- the arguments
 

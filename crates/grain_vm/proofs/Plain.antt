@@ -1,5 +1,5 @@
 -- Plain instructions, and what follows where one is not plain.
-use Rattle.std.proofs.Common.{◌≡◌, ◌∙◌, ℕ, true, false, Result, refl, sym, subst, ap}
+use Rattle.std.proofs.Common.{◌≡◌, ◌∙◌, ℕ, true, false, Option, None, Result, Ok, refl, sym, subst, ap}
 use Rattle.grain_value.specs.declared.memory.OutOfMemory.{OutOfMemory}
 use Rattle.grain_program.specs.View.{View}
 use Rattle.grain_program.specs.declared.code.instruction_set.Op.{Op}
@@ -12,7 +12,7 @@ use Rattle.grain_frame.specs.Abstraction.{AsksNothing, Moment, RunsNoMethod, Ste
 use Rattle.grain_frame.specs.declared.activations.Activation.{Activation}
 use Rattle.grain_frame.specs.declared.runs.Progress.{Progress}
 use Rattle.grain_frame.specs.declared.runs.Run.{Run}
-use Rattle.grain_vm.specs.Finding.{is_plain}
+use Rattle.grain_vm.specs.Finding.{StepsIfPlain, is_plain}
 
 module _ (o : Op) (plain : is_plain o ≡ true) where
   other : (q : Op) → o ≡ q → is_plain q ≡ false → ⊥
@@ -38,9 +38,11 @@ module _ (o : Op) (plain : is_plain o ≡ true) where
 -- what was done after nothing was done
 pub stepped_from : {H : Type 0} (law : Law H) (p : View) (engine : Engine) (f f1 : Activation)
     (s s1 : Run H) (n n1 : StepsView) (host host1 : H) (c : Moment H)
-    (r : Result Progress OutOfMemory) →
-    (f1 ≡ f) × (s1 ≡ s) × (n1 ≡ n) × (host1 ≡ host) →
+    (r : Result Progress OutOfMemory) (o : Option Progress) → o ≡ None →
+    StepsIfPlain (setup law p engine) (moment f s n host) (Ok o) (moment f1 s1 n1 host1) →
     Stepped (setup law p engine) (moment f1 s1 n1 host1) r c →
     Stepped (setup law p engine) (moment f s n host) r c
-stepped_from law p engine f f1 s s1 n n1 host host1 c r same did =
+stepped_from law p engine f f1 s s1 n n1 host host1 c r o none plain did =
+    let same = subst (λ (x : Option Progress). StepsIfPlain (setup law p engine)
+    (moment f s n host) (Ok x) (moment f1 s1 n1 host1)) none plain in
     rw (same.0, same.1, same.2, same.3) at did

@@ -53,8 +53,10 @@ pub(crate) fn step_or_walk<H: Host, L: Ledger>(
 {
     match step_plain(run, context, host, steps, frame) {
         Err(e) => Err(e),
-        Ok(Some(progress)) => Ok(progress),
-        Ok(None) => walk_or_wait(run, context, host, steps, frame),
+        Ok(done) => match done {
+            Some(progress) => Ok(progress),
+            None => walk_or_wait(run, context, host, steps, frame),
+        },
     }
 }
 

@@ -306,9 +306,11 @@ fn bind_arguments<H: Host>(
 {
     let names = context.program.names();
     let params = function.params.as_slice();
-    'arguments: for (index, value) in arguments.into_vec().into_iter().enumerate() {
+    let mut index = 0;
+    'arguments: for value in arguments.into_vec() {
         let name = names.at(params[index] as usize);
         run.scope.push_shared(name, Held::read_write(value))?;
+        index += 1;
     }
     run.stacks.enter(function.chunk.max_stack)
 }

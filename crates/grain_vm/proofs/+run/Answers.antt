@@ -341,7 +341,7 @@ method_runs::step_or_walk-returns-in-None g t c =
           c.args.frame.now did.frame c.args.run.now did.run c.args.steps.now did.steps
           c.args.host.now did.host
           (moment walked.new.frame walked.new.run walked.new.steps walked.new.host) walked.result
-          c.in-None.ensures.steps walked.ensures.stepped;
+          c.in-Ok.done c.in-None.is c.in-Ok.ensures.steps walked.ensures.stepped;
     }
 
 pub method_runs::walk_or_wait-returns-in-Waits : goal.method_runs::walk_or_wait-returns-in-Waits
@@ -774,7 +774,7 @@ finding::find_native-returns g t c =
     let none : function_found p c.args.name c.args.count ≡ None =
     none_numbered p (function_of p c.args.name c.args.count) (sym c.requires.missing) in
     let named : c.name-name.result.now ≡ name_of p c.args.name =
-    c.name-name.ensures ∙ ap (name_of p) c.from-name.ensures in
+    c.name-name.ensures ∙ ap (name_of p) c.from.ensures in
     let did = c.native_by_name in
     rw c.of.ensures (record {
       finds = finds_of g.H.Host.law p engine f did.new.frame s did.new.run c.args.steps.now
