@@ -266,31 +266,32 @@ found_here law p engine f f' s s' n n' o next host host' (Ok (found.Function num
 found_here law p engine f f' s s' n n' o next host host' (Err e) runs at call did =
     arm_bound refl call.keeps at runs did
 
--- what a call of a function by its name comes to
+-- what `call` comes to where there is such a function
 pub function_pending : {H : Type 0} (law : Law H) (p : View) (engine : Engine) (f : Activation)
-    (s : Run H) (n : StepsView) (number next : ℕ) (host : H) (q : Pending) →
-    q ≡ pending.Function number next → IsPending p f s q →
+    (s : Run H) (n : StepsView) (name count next number : ℕ) (host : H) (q : Pending) →
+    q ≡ pending.Call name count next → IsPending p f s q → Some number ≡ function_of p name count →
+    Called p name count number →
     FindsHere (setup law p engine) (moment f s n host) (Ok (found.Function number next))
     (moment f s n host)
-function_pending law p engine f s n number next host q is waits =
-    let known = subst (λ (k : Pending). IsPending p f s k) is waits in (
-      op.Call known.0 known.1,
-      known.2,
+function_pending law p engine f s n name count next number host q is waits exact called =
+    let at = subst (λ (k : Pending). IsPending p f s k) is waits in (
+      op.Call name count,
+      at,
       record { leads = refl; gives = refl; keeps = refl },
-      named_found law p engine f s n known.0 known.1 next number host known.3 known.4
-          known.2.seen.provides.enough,
+      named_found law p engine f s n name count next number host exact called
+          at.seen.provides.enough,
     )
 
--- what `call` comes to where there is no such function
-pub native_pending : {H : Type 0} (law : Law H) (p : View) (engine : Engine) (f f' : Activation)
+-- what it comes to
+pub call_pending : {H : Type 0} (law : Law H) (p : View) (engine : Engine) (f f' : Activation)
     (s s' : Run H) (n n' : StepsView) (name count next : ℕ) (host host' : H) (q : Pending)
-    (r : Result Found OutOfMemory) → Runs p f s → q ≡ pending.Native name count next →
+    (r : Result Found OutOfMemory) → Runs p f s → q ≡ pending.Call name count next →
     IsPending p f s q → Finds (setup law p engine) (moment f s n host) (op.Call name count) next r
     (moment f' s' n' host') →
     FindsHere (setup law p engine) (moment f s n host) r (moment f' s' n' host')
-native_pending law p engine f f' s s' n n' name count next host host' q r runs is waits did =
+call_pending law p engine f f' s s' n n' name count next host host' q r runs is waits did =
     found_here law p engine f f' s s' n n' (op.Call name count) next host host' r runs
-    (subst (λ (k : Pending). IsPending p f s k) is waits).0
+    (subst (λ (k : Pending). IsPending p f s k) is waits)
     (record { leads = refl; gives = refl; keeps = refl }) did
 
 -- what `call_fn_ptr` comes to

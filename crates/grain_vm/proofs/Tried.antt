@@ -15,11 +15,8 @@ use Rattle.grain_global.specs.declared.engines.Engine.{Engine}
 use Rattle.grain_means.specs.Rules.{or_return}
 use Rattle.grain_means.specs.Means.{setup}
 use Rattle.grain_global.specs.StepsView.{StepsView}
-use Rattle.grain_program.specs.declared.code.instruction_set.Op.TheVariants as op
-use Rattle.grain_frame.specs.Abstraction.{Runs, Performs, StandsAt, Stepped, IsNoCall, moment}
-use Rattle.grain_vm.specs.Attempts.{CallsNothing, OnTrue, OnFalse, Unchanged, Attempted, IsNamedCall, IsPending, StandsAtJump, attempt_of, attempt_or}
-use Rattle.grain_vm.specs.declared.attempts.Pending.{Pending}
-use Rattle.grain_vm.specs.declared.attempts.Pending.TheVariants as pending
+use Rattle.grain_frame.specs.Abstraction.{Runs, Performs, Stepped, IsNoCall, moment}
+use Rattle.grain_vm.specs.Attempts.{CallsNothing, OnTrue, OnFalse, Unchanged, Attempted, StandsAtJump, attempt_of, attempt_or}
 use Rattle.grain_frame.specs.declared.activations.Activation.{Activation}
 use Rattle.grain_frame.specs.declared.runs.Progress.{Progress}
 use Rattle.grain_frame.specs.declared.runs.Progress.TheVariants as progress
@@ -42,18 +39,6 @@ pub attempted : {H : Type 0} (law : Law H) (p : View) (engine : Engine) (f f' : 
     Attempted (setup law p engine) f s n f' s' n' (attempt_of b)
 attempted law p engine f f' s s' n n' true does undone calls = does
 attempted law p engine f f' s s' n n' false does undone calls = (undone, calls)
-
--- `call`, at which the frame stands, is pending
-pub named_pending : {H : Type 0} (p : View) (f : Activation) (s : Run H) (name count next : ℕ)
-    (q : Pending) → StandsAt p f s (op.Call name count) next → IsNamedCall p name count next q →
-    IsPending p f s q
-named_pending p f s name count next (pending.Function number to) at is =
-    subst (λ (k : ℕ). IsPending p f s (pending.Function number k)) (sym is.0)
-    (name, count, at, is.1, is.2)
-named_pending p f s name count next (pending.Native sought given to) at is =
-    rw (is.0, is.1, is.2) (at, is.3)
-named_pending p f s name count next (pending.Pointer given to) at is = absurd is
-named_pending p f s name count next pending.Other at is = absurd is
 
 -- an instruction that was read in the code
 module _ {H : Type 0} (law : Law H) (p : View) (engine : Engine) (f : Activation) (s : Run H)

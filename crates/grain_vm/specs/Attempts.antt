@@ -1,9 +1,8 @@
 -- What came of an instruction that the loop tried first.
-use Rattle.std.specs.Prelude.{◌≡◌, ℕ, Bool, true, false, Ok, Some, None}
+use Rattle.std.specs.Prelude.{◌≡◌, ℕ, Bool, true, false, Ok, Some}
 use Rattle.grain_program.specs.Decoding.{op_at}
 use Rattle.grain_program.specs.declared.code.instruction_set.Op.{Op}
 use Rattle.grain_program.specs.declared.code.instruction_set.Op.TheVariants as op
-use Rattle.grain_program.specs.Lookups.{Called, function_of}
 use Rattle.grain_program.specs.View.{View}
 use Rattle.grain_means.specs.Worlds.{Setup}
 use Rattle.grain_global.specs.StepsView.{StepsView}
@@ -39,23 +38,10 @@ abbrev pub CallsNothing : View → Activation → Type 0
 CallsNothing program f =
     (o : Op) (width : ℕ) → op_at program.code f.address ≡ Some (o, width) → IsNoCall o
 
--- `call` of a name on count arguments is pending so: the function of that name is called, or the native
--- if there is none
-abbrev pub IsNamedCall : View → ℕ → ℕ → ℕ → Pending → Type 0
-IsNamedCall program name count next (pending.Function number to) =
-    (to ≡ next) × (Some number ≡ function_of program name count) × Called program name count number
-IsNamedCall program name count next (pending.Native sought given to) =
-    (sought ≡ name) × (given ≡ count) × (to ≡ next) × (function_of program name count ≡ None)
-IsNamedCall program name count next (pending.Pointer given to) = ⊥
-IsNamedCall program name count next pending.Other = ⊥
-
 -- what is known of an instruction that is still to be done
 abbrev pub IsPending : {H : Type 0} → View → Activation → Run H → Pending → Type 0
-IsPending program f s (pending.Function number next) =
-    (name : ℕ) × (count : ℕ) × StandsAt program f s (op.Call name count) next
-    × (Some number ≡ function_of program name count) × Called program name count number
-IsPending program f s (pending.Native name count next) =
-    StandsAt program f s (op.Call name count) next × (function_of program name count ≡ None)
+IsPending program f s (pending.Call name count next) =
+    StandsAt program f s (op.Call name count) next
 IsPending program f s (pending.Pointer count next) =
     StandsAt program f s (op.CallFnPtr count) next
 IsPending program f s pending.Other = CallsNothing program f

@@ -2,7 +2,7 @@
 
 ghost use Rattle.std.specs.Prelude.{◌≡◌};
 ghost use Rattle.grain_frame.specs.Abstraction.{Runs, setup_of};
-ghost use Rattle.grain_vm.specs.Attempts.{Attempted, IsNamedCall, attempt_of, attempt_or};
+ghost use Rattle.grain_vm.specs.Attempts.{Attempted, attempt_of, attempt_or};
 
 use crate::quick::{quick_assign, quick_const, quick_jump, quick_jump_if, quick_local, quick_op};
 use grain_frame::{Activation, Context, Run};
@@ -27,34 +27,14 @@ pub enum Attempt {
 /// An instruction that is still to be done.
 #[derive(Clone, Copy, Debug, PartialEq, Eq)]
 pub enum Pending {
-    /// A call of the function of this number on the last operands; afterwards the frame goes on at
-    /// the address `next`.
-    Function { number: usize, next: usize },
-    /// A call of the native whose name has this index, on the last `count` operands, since no
-    /// function has that name and that number of parameters; afterwards the frame goes on at the
-    /// address `next`.
-    Native { name: u16, count: u8, next: usize },
+    /// A call of the function whose name has this index, with this number of arguments; afterwards
+    /// the frame goes on at the address `next`.
+    Call { name: u16, count: u8, next: usize },
     /// A call of the pointer under the last `count` operands; afterwards the frame goes on at
     /// the address `next`.
     Pointer { count: u8, next: usize },
     /// Any other: neither `call` nor `call_fn_ptr`.
     Other,
-}
-
-impl Pending {
-    // `call`: of the function of a name with `count` parameters, or else of the native of that name.
-    #[inline(always)]
-    fn named(context: Context<'_>, name: u16, count: u8, next: usize) -> Pending
-        ensures { IsNamedCall context.entry.program.now name count next result }
-    {
-        match context
-            .program
-            .function(u32::from(name), usize::from(count))
-        {
-            Some(number) => Pending::Function { number, next },
-            None => Pending::Native { name, count, next },
-        }
-    }
 }
 
 impl Attempt {
@@ -117,7 +97,11 @@ pub(crate) fn quick<H: Host, L: Ledger>(
             Attempt::of(quick_op(run, context, steps, frame, name, count, token, width))
         }
         (Op::Call(name, count), width) => {
-            Attempt::Pending(Pending::named(context, name, count, address + width))
+            Attempt::Pending(Pending::Call {
+                name,
+                count,
+                next: address + width,
+            })
         }
         (Op::CallFnPtr(count), width) => {
             Attempt::Pending(Pending::Pointer {

@@ -1,8 +1,7 @@
 //! What an instruction that is not done at once comes to: it is done, or it calls a function.
 
-ghost use Rattle.std.specs.Prelude.{◌≡◌, None};
+ghost use Rattle.std.specs.Prelude.{◌≡◌};
 ghost use Rattle.grain_program.specs.Indices.{InPools};
-ghost use Rattle.grain_program.specs.Lookups.{function_of};
 ghost use Rattle.grain_frame.specs.Abstraction.{Ready, Runs, setup_of, moment};
 ghost use Rattle.grain_vm.specs.Attempts.{IsPending};
 ghost use Rattle.grain_vm.specs.Finding.{Finds, FindsHere, found_of};
@@ -59,9 +58,8 @@ pub(crate) fn find_apart<H: Host, L: Ledger>(
         (moment frame.new run.new steps.new host.new) }
 {
     match pending {
-        Pending::Function { number, next } => Ok(Found::Function { number, next }),
-        Pending::Native { name, count, next } => {
-            find_native(run, context, host, steps, frame, name, count, next)
+        Pending::Call { name, count, next } => {
+            find_named(run, context, host, steps, frame, name, count, next)
         }
         Pending::Pointer { count, next } => {
             find_pointed(run, context, host, steps, frame, count, next)
@@ -70,12 +68,12 @@ pub(crate) fn find_apart<H: Host, L: Ledger>(
     }
 }
 
-// `call` of a name that no function has: the native of that name is called on the last `count`
-// operands.
+// `call`: finds the function of a name with `count` parameters. If there is none, the native of
+// that name is called on the last `count` operands.
 #[cycle(run)]
 #[cold]
 #[inline(never)]
-fn find_native<H: Host, L: Ledger>(
+fn find_named<H: Host, L: Ledger>(
     run: &mut Run<H>,
     context: Context<'_>,
     host: &mut H,
@@ -87,15 +85,19 @@ fn find_native<H: Host, L: Ledger>(
 ) -> Result<Found, OutOfMemory>
     requires ready { Ready frame.old run.old (op.Call name count) next }
     requires pools { InPools context.program.now (op.Call name count) }
-    requires missing { function_of context.program.now name count ≡ None }
     requires none { NoneAbove run.old.level run.old.receivers }
     ensures finds { Finds (setup_of H.law context.entry)
         (moment frame.old run.old steps.old host.old) (op.Call name count) next result
         (moment frame.new run.new steps.new host.new) }
 {
     let count = usize::from(count);
-    let name = context.program.name(u32::from(name));
-    Found::of(native_by_name(run, context, host, steps, frame, name, count, next))
+    match context.program.function(u32::from(name), count) {
+        Some(number) => Ok(Found::Function { number, next }),
+        None => {
+            let name = context.program.name(u32::from(name));
+            Found::of(native_by_name(run, context, host, steps, frame, name, count, next))
+        }
+    }
 }
 
 // `call_fn_ptr`: finds the function that the pointer under the last `count` operands names, with as many

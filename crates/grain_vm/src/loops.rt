@@ -105,8 +105,13 @@ fn do_or_find<H: Host, L: Ledger>(
         (moment frame.old run.old steps.old host.old) result
         (moment frame.new run.new steps.new host.new) }
 {
-    if let Pending::Function { number, next } = pending {
-        return Ok(Found::Function { number, next });
+    if let Pending::Call { name, count, next } = pending {
+        if let Some(number) = context
+            .program
+            .function(u32::from(name), usize::from(count))
+        {
+            return Ok(Found::Function { number, next });
+        }
     }
     let mut copy = *frame;
     let found = find_apart(run, context, host, steps, &mut copy, pending);

@@ -5,7 +5,7 @@ use Rattle.grain_vm.specs.Driving.{IsApart}
 use Rattle.grain_vm.specs.Methods.{NoneAbove, given_to}
 use Rattle.grain_frame.specs.declared.waiting.Performed.TheVariants as performed
 use Rattle.grain_frame.specs.lemmas.Bound.{as_bound}
-use Rattle.grain_vm.proofs.Found.{done_here, found_on_copy, found_stepped, function_pending, is_function, native_pending, pointer_pending, finds_of, named_found, call_refused, none_numbered, pointed_done, pointed_found}
+use Rattle.grain_vm.proofs.Found.{call_pending, done_here, found_on_copy, found_stepped, function_pending, is_function, pointer_pending, finds_of, named_found, call_refused, none_numbered, pointed_done, pointed_found}
 use Rattle.grain_vm.proofs.Plain.{stepped_from}
 use Rattle.grain_vm.proofs.Calling.{call_ran, has_begun, not_begun, entered_with, kept_with, refused_here, refused_this, there_is, outer_is}
 use Rattle.grain_vm.proofs.ChainAhead.{chain_stepped}
@@ -46,7 +46,7 @@ use Rattle.grain_value.specs.Cells.{flat}
 use Rattle.grain_value.specs.Operands.{arguments, read_write, under}
 use Rattle.grain_value.specs.Writing.{type_name_of}
 use Rattle.grain_fault.specs.Problems.{Plain, DataRace, MismatchDataType}
-use Rattle.grain_program.specs.Lookups.{CalledByText, function_by_text, function_of}
+use Rattle.grain_program.specs.Lookups.{CalledByText, function_by_text}
 use Rattle.grain_stack.specs.Views.{StacksView}
 use Rattle.grain_means.specs.Simulation.{stopped, world}
 use Rattle.grain_frame.specs.declared.runs.Run.{Run}
@@ -278,11 +278,13 @@ loops::run_frame-frame-preserved g t c =
     c.in-Ok.ensures.catches c.in-Ok.ensures.around c.in-Some.is (offers.goes at refl refl refl)
     offers.kept (offers.typed at) c.catch.ensures.before
 
-pub loops::do_or_find-returns-in-Function : goal.loops::do_or_find-returns-in-Function
-loops::do_or_find-returns-in-Function g t c = record {
+pub loops::do_or_find-returns-in-Some : goal.loops::do_or_find-returns-in-Some
+loops::do_or_find-returns-in-Some g t c = record {
   finds = function_pending g.H.Host.law c.args.context.program.now c.args.context.engine.now
-      c.args.frame.now c.args.run.now c.args.steps.now c.in-Function.number c.in-Function.next
-      c.args.host.now c.args.pending c.in-Function.is c.requires.pending;
+      c.args.frame.now c.args.run.now c.args.steps.now c.in-Call.name c.in-Call.count
+      c.in-Call.next c.in-Some.number c.args.host.now c.args.pending c.in-Call.is
+      c.requires.pending (rw (c.from.ensures, c.from-in-Call.ensures) at c.in-Some.ensures.exact)
+      (rw (c.from.ensures, c.from-in-Call.ensures) at c.in-Some.ensures.called);
 }
 
 pub loops::do_or_find-returns : goal.loops::do_or_find-returns
@@ -294,21 +296,14 @@ loops::do_or_find-returns g t c =
           found.new.steps c.args.host.now found.new.host found.result found.ensures.finds;
     }
 
-pub finding::find_apart-returns-in-Function : goal.finding::find_apart-returns-in-Function
-finding::find_apart-returns-in-Function g t c = record {
-  finds = function_pending g.H.Host.law c.args.context.program.now c.args.context.engine.now
-      c.args.frame.now c.args.run.now c.args.steps.now c.in-Function.number c.in-Function.next
-      c.args.host.now c.args.pending c.in-Function.is c.requires.pending;
-}
-
-pub finding::find_apart-returns-in-Native : goal.finding::find_apart-returns-in-Native
-finding::find_apart-returns-in-Native g t c =
-    let found = c.find_native in
+pub finding::find_apart-returns-in-Call : goal.finding::find_apart-returns-in-Call
+finding::find_apart-returns-in-Call g t c =
+    let found = c.find_named in
     record {
-      finds = native_pending g.H.Host.law c.args.context.program.now c.args.context.engine.now
+      finds = call_pending g.H.Host.law c.args.context.program.now c.args.context.engine.now
           c.args.frame.now found.new.frame c.args.run.now found.new.run c.args.steps.now
-          found.new.steps c.in-Native.name c.in-Native.count c.in-Native.next c.args.host.now
-          found.new.host c.args.pending found.result c.requires.runs c.in-Native.is
+          found.new.steps c.in-Call.name c.in-Call.count c.in-Call.next c.args.host.now
+          found.new.host c.args.pending found.result c.requires.runs c.in-Call.is
           c.requires.pending found.ensures.finds;
     }
 
@@ -765,16 +760,15 @@ method_runs::call_on-returns-in-Native g t c =
           ended.ensures.implements ended.ensures.carries;
     }
 
-pub finding::find_native-returns : goal.finding::find_native-returns
-finding::find_native-returns g t c =
+pub finding::find_named-returns-in-None : goal.finding::find_named-returns-in-None
+finding::find_named-returns-in-None g t c =
     let p = c.args.context.program.now in
     let engine = c.args.context.engine.now in
     let s = c.args.run.now in
     let f = c.args.frame.now in
-    let none : function_found p c.args.name c.args.count ≡ None =
-    none_numbered p (function_of p c.args.name c.args.count) (sym c.requires.missing) in
+    let none : function_found p c.args.name c.args.count ≡ None = search rules in
     let named : c.name-name.result.now ≡ name_of p c.args.name =
-    c.name-name.ensures ∙ ap (name_of p) c.from.ensures in
+    c.name-name.ensures ∙ ap (name_of p) c.from-in-None.ensures in
     let did = c.native_by_name in
     rw c.of.ensures (record {
       finds = finds_of g.H.Host.law p engine f did.new.frame s did.new.run c.args.steps.now
@@ -785,6 +779,19 @@ finding::find_native-returns g t c =
           c.name-name.result.now c.from-count.result none named c.from-count.ensures
           did.ensures.implements);
     })
+
+pub finding::find_named-returns-in-Some : goal.finding::find_named-returns-in-Some
+finding::find_named-returns-in-Some g t c = record {
+  finds = (
+    refl,
+    named_found g.H.Host.law c.args.context.program.now c.args.context.engine.now
+        c.args.frame.now c.args.run.now c.args.steps.now c.args.name c.args.count c.args.next
+        c.in-Some.number c.args.host.now
+        (rw (c.from.ensures, c.from-count.ensures) at c.in-Some.ensures.exact)
+        (rw (c.from.ensures, c.from-count.ensures) at c.in-Some.ensures.called)
+        c.requires.ready.operands,
+  );
+}
 
 pub finding::find_pointed-returns-in-Lent : goal.finding::find_pointed-returns-in-Lent
 finding::find_pointed-returns-in-Lent g t c =

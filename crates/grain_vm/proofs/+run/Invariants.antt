@@ -52,8 +52,8 @@ abbrev pub decreases-finding::find_pointed : goal.decreases-finding::find_pointe
 decreases-finding::find_pointed g l =
     32 * left l.context.engine.now l.run.now.count l.frame.now.address + 7
 
-abbrev pub decreases-finding::find_native : goal.decreases-finding::find_native
-decreases-finding::find_native g l =
+abbrev pub decreases-finding::find_named : goal.decreases-finding::find_named
+decreases-finding::find_named g l =
     32 * left l.context.engine.now l.run.now.count l.frame.now.address + 7
 
 abbrev pub decreases-method_runs::walk_chain : goal.decreases-method_runs::walk_chain

@@ -4,7 +4,7 @@ use Rattle.grain_program.specs.declared.code.instruction_set.Op.TheVariants as o
 use Rattle.grain_program.specs.TypedAt.{IsTypedAt}
 use Rattle.grain_frame.specs.Abstraction.{tries_in}
 use Rattle.grain_frame.specs.lemmas.Arms.{stepped, stands, leads_typed}
-use Rattle.grain_vm.proofs.Tried.{named_pending, tried_out, tried_or, tried_on}
+use Rattle.grain_vm.proofs.Tried.{tried_out, tried_or, tried_on}
 use Rattle.grain_vm.proofs.attempts.quick.Goals as goal
 
 pub fetch-requires : goal.fetch-requires
@@ -149,13 +149,11 @@ returns-in-Return-default g c =
 pub returns-in-Call-default : goal.returns-in-Call-default
 returns-in-Call-default g c = (
   (refl, refl, refl),
-  named_pending c.args.context.program.now c.args.frame.now c.args.run.now c.in-Call-default.name
-      c.in-Call-default.count (c.args.frame.now.address + c.fetch.result.1) c.named.result
-      (stands g.H.Host.law c.args.context.program.now c.args.context.engine.now
+  stands g.H.Host.law c.args.context.program.now c.args.context.engine.now
       c.args.frame.now c.args.run.now c.fetch.result.0
       (op.Call c.in-Call-default.name c.in-Call-default.count) c.fetch.result.1
       c.height-depth.result c.in-Call-default.is-0 c.height-depth.ensures c.requires.runs
-      c.fetch.ensures.verified c.fetch.ensures.read) c.named.ensures,
+      c.fetch.ensures.verified c.fetch.ensures.read,
 )
 
 pub returns-in-CallFnPtr-default : goal.returns-in-CallFnPtr-default
