@@ -2,7 +2,7 @@
 
 ghost use Rattle.std.specs.Prelude.{◌≡◌};
 ghost use Rattle.grain_frame.specs.Abstraction.{Runs, setup_of};
-ghost use Rattle.grain_vm.specs.Attempts.{Attempted, attempt_of, attempt_or};
+ghost use Rattle.grain_vm.specs.Attempts.{Attempted, IsPending, attempt_of, attempt_or};
 
 use crate::quick::{quick_assign, quick_const, quick_jump, quick_jump_if, quick_local, quick_op};
 use grain_frame::{Activation, Context, Run};
@@ -114,5 +114,31 @@ pub(crate) fn quick<H: Host, L: Ledger>(
             Attempt::Returned
         }
         (_, _) => Attempt::Pending(Pending::Other),
+    }
+}
+
+// What is pending of the instruction at which the frame stands.
+#[inline(always)]
+pub(crate) fn pending_at<H: Host>(run: &Run<H>, context: Context<'_>, frame: &Activation) -> Pending
+    requires runs { Runs context.program.now frame.now run.now }
+    ensures { IsPending context.entry.program.now frame.now run.now result }
+{
+    let address = frame.address;
+    let depth = run.stacks.height();
+    match context.program.fetch(frame.chunk, address, depth) {
+        (Op::Call(name, count), width) => {
+            Pending::Call {
+                name,
+                count,
+                next: address + width,
+            }
+        }
+        (Op::CallFnPtr(count), width) => {
+            Pending::Pointer {
+                count,
+                next: address + width,
+            }
+        }
+        (_, _) => Pending::Other,
     }
 }

@@ -3,13 +3,12 @@
 ghost use Rattle.std.specs.Prelude.{◌≡◌};
 ghost use Rattle.grain_program.specs.Indices.{InPools};
 ghost use Rattle.grain_frame.specs.Abstraction.{Ready, Runs, setup_of, moment};
-ghost use Rattle.grain_vm.specs.Attempts.{IsPending};
 ghost use Rattle.grain_vm.specs.Finding.{Finds, FindsHere, found_of};
 ghost use Rattle.grain_vm.specs.Methods.{NoneAbove};
 ghost use Rattle.grain_program.specs.declared.code.instruction_set.Op.TheVariants as op;
 
 use crate::asks::native_by_name;
-use crate::attempts::Pending;
+use crate::attempts::{Pending, pending_at};
 use crate::method_runs::step_or_walk;
 use grain_frame::{Activation, Context, Progress, Run, Under};
 use grain_global::Steps;
@@ -37,8 +36,9 @@ impl Found {
     }
 }
 
-// What a pending instruction comes to. It is not part of the loop, so that what it needs costs the loop
-// no register.
+// What the instruction at which the frame stands comes to. It is not part of the loop, so that what it
+// needs costs the loop no register, and it reads the instruction again, so that the loop has what it read
+// in registers.
 #[cycle(run)]
 #[cold]
 #[inline(never)]
@@ -48,16 +48,14 @@ pub(crate) fn find_apart<H: Host, L: Ledger>(
     host: &mut H,
     steps: &mut Steps<L>,
     frame: &mut Activation,
-    pending: Pending,
 ) -> Result<Found, OutOfMemory>
     requires runs { Runs context.program.now frame.old run.old }
     requires none { NoneAbove run.old.level run.old.receivers }
-    requires pending { IsPending context.program.now frame.old run.old pending }
     ensures finds { FindsHere (setup_of H.law context.entry)
         (moment frame.old run.old steps.old host.old) result
         (moment frame.new run.new steps.new host.new) }
 {
-    match pending {
+    match pending_at(run, context, frame) {
         Pending::Call { name, count, next } => {
             find_named(run, context, host, steps, frame, name, count, next)
         }

@@ -287,18 +287,6 @@ loops::do_or_find-returns-in-Some g t c = record {
       (rw (c.from.ensures, c.from-in-Call.ensures) at c.in-Some.ensures.called);
 }
 
-pub loops::do_or_find-returns-in-Other : goal.loops::do_or_find-returns-in-Other
-loops::do_or_find-returns-in-Other g t c =
-    let did = c.step_or_walk-progress in
-    rw c.of.ensures (record {
-      finds = found_on_copy g.H.Host.law c.args.context.program.now c.args.context.engine.now
-          c.args.frame.now did.new.frame c.args.run.now did.new.run c.args.steps.now did.new.steps
-          c.args.host.now did.new.host (found_of did.result)
-          (done_here g.H.Host.law c.args.context.program.now c.args.context.engine.now
-          c.args.frame.now did.new.frame c.args.run.now did.new.run c.args.steps.now did.new.steps
-          c.args.host.now did.new.host did.result did.ensures.stepped);
-    })
-
 pub loops::do_or_find-returns : goal.loops::do_or_find-returns
 loops::do_or_find-returns g t c =
     let found = c.find_apart-found in
@@ -315,8 +303,8 @@ finding::find_apart-returns-in-Call g t c =
       finds = call_pending g.H.Host.law c.args.context.program.now c.args.context.engine.now
           c.args.frame.now found.new.frame c.args.run.now found.new.run c.args.steps.now
           found.new.steps c.in-Call.name c.in-Call.count c.in-Call.next c.args.host.now
-          found.new.host c.args.pending found.result c.requires.runs c.in-Call.is
-          c.requires.pending found.ensures.finds;
+          found.new.host c.pending_at.result found.result c.requires.runs c.in-Call.is
+          c.pending_at.ensures found.ensures.finds;
     }
 
 pub finding::find_apart-returns-in-Pointer : goal.finding::find_apart-returns-in-Pointer
@@ -326,7 +314,7 @@ finding::find_apart-returns-in-Pointer g t c =
       finds = pointer_pending g.H.Host.law c.args.context.program.now c.args.context.engine.now
           c.args.frame.now found.new.frame c.args.run.now found.new.run c.args.steps.now
           found.new.steps c.in-Pointer.count c.in-Pointer.next c.args.host.now found.new.host
-          c.args.pending found.result c.requires.runs c.in-Pointer.is c.requires.pending
+          c.pending_at.result found.result c.requires.runs c.in-Pointer.is c.pending_at.ensures
           found.ensures.finds;
     }
 
