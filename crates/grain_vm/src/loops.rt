@@ -17,6 +17,7 @@ use crate::attempts::{Attempt, Pending, quick};
 use crate::calls::{FrameEnd, enter_function, leave_by_fault, resume_caller};
 use crate::catching::catch;
 use crate::finding::{Found, find_apart};
+use crate::method_runs::step_or_walk;
 use crate::stepping::jump;
 use grain_frame::{Activation, Context, Progress, Run};
 use grain_global::Steps;
@@ -105,6 +106,14 @@ fn do_or_find<H: Host, L: Ledger>(
         (moment frame.old run.old steps.old host.old) result
         (moment frame.new run.new steps.new host.new) }
 {
+    if let Pending::Other = pending {
+        let mut copy = *frame;
+        let progress = step_or_walk(run, context, host, steps, &mut copy);
+        frame.address = copy.address;
+        frame.floor = copy.floor;
+        frame.slot = copy.slot;
+        return Found::of(progress);
+    }
     if let Pending::Call { name, count, next } = pending {
         if let Some(number) = context
             .program

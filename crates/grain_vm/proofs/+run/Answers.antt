@@ -287,6 +287,18 @@ loops::do_or_find-returns-in-Some g t c = record {
       (rw (c.from.ensures, c.from-in-Call.ensures) at c.in-Some.ensures.called);
 }
 
+pub loops::do_or_find-returns-in-Other : goal.loops::do_or_find-returns-in-Other
+loops::do_or_find-returns-in-Other g t c =
+    let did = c.step_or_walk-progress in
+    rw c.of.ensures (record {
+      finds = found_on_copy g.H.Host.law c.args.context.program.now c.args.context.engine.now
+          c.args.frame.now did.new.frame c.args.run.now did.new.run c.args.steps.now did.new.steps
+          c.args.host.now did.new.host (found_of did.result)
+          (done_here g.H.Host.law c.args.context.program.now c.args.context.engine.now
+          c.args.frame.now did.new.frame c.args.run.now did.new.run c.args.steps.now did.new.steps
+          c.args.host.now did.new.host did.result did.ensures.stepped);
+    })
+
 pub loops::do_or_find-returns : goal.loops::do_or_find-returns
 loops::do_or_find-returns g t c =
     let found = c.find_apart-found in
