@@ -28,11 +28,11 @@ use Rattle.grain_means.specs.Means.{setup}
 use Rattle.grain_means.specs.lemmas.Stretches.{same, compose}
 use Rattle.grain_global.specs.StepsView.{StepsView}
 use Rattle.grain_frame.specs.Abstraction.{ContinuesAt, ImplementsBound, KeepsFrame, Moment, PerformsBound, Runs, StandsAt, Stepped, abstraction, continuation, frame_in, is_out, moment}
-use Rattle.grain_vm.specs.Attempts.{IsPending}
+use Rattle.grain_vm.specs.Attempts.{IsWay}
 use Rattle.grain_vm.specs.Finding.{Finds, FindsFunction, FindsHere, IsCall, found_of}
 use Rattle.grain_frame.specs.declared.activations.Activation.{Activation}
-use Rattle.grain_vm.specs.declared.attempts.Pending.{Pending}
-use Rattle.grain_vm.specs.declared.attempts.Pending.TheVariants as pending
+use Rattle.grain_vm.specs.declared.attempts.Way.{Way}
+use Rattle.grain_vm.specs.declared.attempts.Way.TheVariants as way
 use Rattle.grain_vm.specs.declared.finding.Found.{Found}
 use Rattle.grain_vm.specs.declared.finding.Found.TheVariants as found
 use Rattle.grain_frame.specs.declared.runs.Progress.{Progress}
@@ -266,44 +266,31 @@ found_here law p engine f f' s s' n n' o next host host' (Ok (found.Function num
 found_here law p engine f f' s s' n n' o next host host' (Err e) runs at call did =
     arm_bound refl call.keeps at runs did
 
--- what `call` comes to where there is such a function
-pub function_pending : {H : Type 0} (law : Law H) (p : View) (engine : Engine) (f : Activation)
-    (s : Run H) (n : StepsView) (name count next number : ℕ) (host : H) (q : Pending) →
-    q ≡ pending.Call name count next → IsPending p f s q → Some number ≡ function_of p name count →
-    Called p name count number →
+-- what a call of a function by its name comes to
+pub function_found_so : {H : Type 0} (law : Law H) (p : View) (engine : Engine) (f : Activation)
+    (s : Run H) (n : StepsView) (number next : ℕ) (host : H) (x : Way) →
+    x ≡ way.Function number next → IsWay p f s x →
     FindsHere (setup law p engine) (moment f s n host) (Ok (found.Function number next))
     (moment f s n host)
-function_pending law p engine f s n name count next number host q is waits exact called =
-    let at = subst (λ (k : Pending). IsPending p f s k) is waits in (
-      op.Call name count,
-      at,
+function_found_so law p engine f s n number next host x is ways =
+    let known = subst (λ (y : Way). IsWay p f s y) is ways in (
+      op.Call known.0 known.1,
+      known.2,
       record { leads = refl; gives = refl; keeps = refl },
-      named_found law p engine f s n name count next number host exact called
-          at.seen.provides.enough,
+      named_found law p engine f s n known.0 known.1 next number host known.3 known.4
+          known.2.seen.provides.enough,
     )
 
--- what it comes to
-pub call_pending : {H : Type 0} (law : Law H) (p : View) (engine : Engine) (f f' : Activation)
-    (s s' : Run H) (n n' : StepsView) (name count next : ℕ) (host host' : H) (q : Pending)
-    (r : Result Found OutOfMemory) → Runs p f s → q ≡ pending.Call name count next →
-    IsPending p f s q → Finds (setup law p engine) (moment f s n host) (op.Call name count) next r
-    (moment f' s' n' host') →
-    FindsHere (setup law p engine) (moment f s n host) r (moment f' s' n' host')
-call_pending law p engine f f' s s' n n' name count next host host' q r runs is waits did =
-    found_here law p engine f f' s s' n n' (op.Call name count) next host host' r runs
-    (subst (λ (k : Pending). IsPending p f s k) is waits)
-    (record { leads = refl; gives = refl; keeps = refl }) did
-
 -- what `call_fn_ptr` comes to
-pub pointer_pending : {H : Type 0} (law : Law H) (p : View) (engine : Engine) (f f' : Activation)
-    (s s' : Run H) (n n' : StepsView) (count next : ℕ) (host host' : H) (q : Pending)
-    (r : Result Found OutOfMemory) → Runs p f s → q ≡ pending.Pointer count next →
-    IsPending p f s q → Finds (setup law p engine) (moment f s n host) (op.CallFnPtr count) next r
+pub pointer_found : {H : Type 0} (law : Law H) (p : View) (engine : Engine) (f f' : Activation)
+    (s s' : Run H) (n n' : StepsView) (count next : ℕ) (host host' : H) (x : Way)
+    (r : Result Found OutOfMemory) → Runs p f s → x ≡ way.Pointer count next → IsWay p f s x →
+    Finds (setup law p engine) (moment f s n host) (op.CallFnPtr count) next r
     (moment f' s' n' host') →
     FindsHere (setup law p engine) (moment f s n host) r (moment f' s' n' host')
-pointer_pending law p engine f f' s s' n n' count next host host' q r runs is waits did =
+pointer_found law p engine f f' s s' n n' count next host host' x r runs is ways did =
     found_here law p engine f f' s s' n n' (op.CallFnPtr count) next host host' r runs
-    (subst (λ (k : Pending). IsPending p f s k) is waits)
+    (subst (λ (y : Way). IsWay p f s y) is ways)
     (record { leads = refl; gives = refl; keeps = refl }) did
 
 -- the frame has its chunk and its base, whatever came of its instruction

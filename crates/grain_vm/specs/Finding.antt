@@ -96,8 +96,10 @@ StepsHere m a (Ok (turn.Receiver d count next)) b =
     StandsAt m.program a.frame a.run (op_on d count) next × (b ≡ a)
 StepsHere m a (Err e) b = Stepped m a (Err e) b
 
--- the instruction walks along no place, calls no pointer with a receiver, and asks the host for no native
+-- the instruction calls nothing, walks along no place, and asks the host for no native
 abbrev pub is_plain : Op → Bool
+is_plain (op.Call name count) = false
+is_plain (op.CallFnPtr count) = false
 is_plain (op.Chain index) = false
 is_plain (op.CallFnPtrMethod count) = false
 is_plain (op.CallFnPtrOnLocal count slot) = false

@@ -6,7 +6,10 @@ ghost use Rattle.grain_value.specs.declared.values.Held.{Held};
 ghost use Rattle.grain_fault.specs.declared.faults.EvalAltResult.TheVariants as fault;
 ghost use Rattle.grain_means.specs.Rules.{call_function};
 ghost use Rattle.grain_chain.specs.Walking.{is_want};
-ghost use Rattle.grain_frame.specs.Abstraction.{ImplementsBound, frame_in, moment, setup_of};
+ghost use Rattle.grain_program.specs.Indices.{InPools};
+ghost use Rattle.grain_program.specs.Lookups.{function_of};
+ghost use Rattle.grain_frame.specs.Abstraction.{ImplementsBound, PerformsBound, Ready, frame_in, moment, setup_of};
+ghost use Rattle.grain_program.specs.declared.code.instruction_set.Op.TheVariants as op;
 ghost use Rattle.grain_frame.specs.Targets.{home_of};
 ghost use Rattle.grain_frame.specs.Waiting.{IsKept, LeadsTo, apart_of, asking, rest_of};
 ghost use Rattle.grain_frame.specs.declared.targets.Target.TheVariants as to;
@@ -107,6 +110,34 @@ pub(crate) fn native_by_name<H: Host, L: Ledger>(
         Performed::Leads(progress) => Ok(progress),
         Performed::Waits(waiting) => wait_for_native(run, context, host, steps, frame, waiting),
     }
+}
+
+// `call` of a name that no function has: the native of that name is called on the last `count`
+// operands.
+#[cycle(run)]
+#[cold]
+#[inline(never)]
+pub(crate) fn call_native<H: Host, L: Ledger>(
+    run: &mut Run<H>,
+    context: Context<'_>,
+    host: &mut H,
+    steps: &mut Steps<L>,
+    frame: &mut Activation,
+    name: u16,
+    count: u8,
+    next: usize,
+) -> Result<Progress, OutOfMemory>
+    requires ready { Ready frame.old run.old (op.Call name count) next }
+    requires pools { InPools context.program.now (op.Call name count) }
+    requires missing { function_of context.program.now name count ≡ None }
+    requires none { NoneAbove run.old.level run.old.receivers }
+    ensures performs { PerformsBound (setup_of H.law context.entry)
+        (moment frame.old run.old steps.old host.old) (op.Call name count) next result
+        (moment frame.new run.new steps.new host.new) }
+{
+    let count = usize::from(count);
+    let name = context.program.name(u32::from(name));
+    native_by_name(run, context, host, steps, frame, name, count, next)
 }
 
 // Calls a native on a receiver, and goes on with it until it is over.

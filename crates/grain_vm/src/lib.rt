@@ -2,6 +2,7 @@
 //! chains are walked, and how main is run.
 #![tactic(auto)]
 
+mod apart;
 mod arguments;
 mod asks;
 mod attempts;

@@ -13,11 +13,11 @@ ghost use Rattle.grain_vm.specs.Finding.{FindsHere};
 ghost use Rattle.grain_vm.specs.Methods.{NoneAbove};
 ghost use Rattle.grain_program.specs.Indices.{IsNamed};
 
-use crate::attempts::{Attempt, Pending, quick};
+use crate::apart::step_or_walk;
+use crate::attempts::{Attempt, Pending, Way, quick, way_of};
 use crate::calls::{FrameEnd, enter_function, leave_by_fault, resume_caller};
 use crate::catching::catch;
-use crate::finding::{Found, find_apart};
-use crate::method_runs::step_or_walk;
+use crate::finding::{Found, find_pointed};
 use crate::stepping::jump;
 use grain_frame::{Activation, Context, Progress, Run};
 use grain_global::Steps;
@@ -106,28 +106,25 @@ fn do_or_find<H: Host, L: Ledger>(
         (moment frame.old run.old steps.old host.old) result
         (moment frame.new run.new steps.new host.new) }
 {
-    if let Pending::Other = pending {
-        let mut copy = *frame;
-        let progress = step_or_walk(run, context, host, steps, &mut copy);
-        frame.address = copy.address;
-        frame.floor = copy.floor;
-        frame.slot = copy.slot;
-        return Found::of(progress);
-    }
-    if let Pending::Call { name, count, next } = pending {
-        if let Some(number) = context
-            .program
-            .function(u32::from(name), usize::from(count))
-        {
-            return Ok(Found::Function { number, next });
+    match way_of(run, context, frame, pending) {
+        Way::Function { number, next } => Ok(Found::Function { number, next }),
+        Way::Pointer { count, next } => {
+            let mut copy = *frame;
+            let found = find_pointed(run, context, host, steps, &mut copy, count, next);
+            frame.address = copy.address;
+            frame.floor = copy.floor;
+            frame.slot = copy.slot;
+            found
+        }
+        Way::Apart => {
+            let mut copy = *frame;
+            let progress = step_or_walk(run, context, host, steps, &mut copy);
+            frame.address = copy.address;
+            frame.floor = copy.floor;
+            frame.slot = copy.slot;
+            Found::of(progress)
         }
     }
-    let mut copy = *frame;
-    let found = find_apart(run, context, host, steps, &mut copy);
-    frame.address = copy.address;
-    frame.floor = copy.floor;
-    frame.slot = copy.slot;
-    found
 }
 
 // Does the instruction at which the frame stands and that `quick` did not do.

@@ -4,7 +4,6 @@
 ghost use Rattle.std.specs.Prelude.{◌≡◌, ◌<◌, ◌≤◌, ◌+◌, ◌-◌, ◌∷◌, [], length, slice_get, Some};
 ghost use Rattle.grain_frame.specs.Abstraction.{abstraction, continuation, frame_in, is_out, ContinuesAt, KeepsFrame, PerformsBound, Ready, ReadyIn, Runs, Stepped, setup_of, moment};
 ghost use Rattle.grain_vm.specs.Asks.{TookOne};
-ghost use Rattle.grain_vm.specs.Attempts.{CallsNothing};
 ghost use Rattle.grain_program.specs.declared.code.functions.Function.{Function};
 ghost use Rattle.grain_program.specs.TypedAt.{IsTypedAt};
 ghost use Rattle.grain_means.specs.Rules.{enter_function};
@@ -16,7 +15,7 @@ ghost use Rattle.grain_vm.specs.Receivers.{CalledOn};
 ghost use Rattle.grain_program.specs.Indices.{InPools, IsNamed};
 ghost use Rattle.grain_program.specs.declared.code.instruction_set.Op.TheVariants as op;
 
-use crate::asks::{native_on, wait_for_native};
+use crate::asks::native_on;
 use crate::chains::{Begun, begin_chain, finish_chain};
 use crate::driving::{Driven, drive, go_on};
 use crate::finding::{Found, find_pointed};
@@ -24,7 +23,6 @@ use crate::loops::{call, run_frame};
 use crate::methods::{MethodCall, Needed, Outcome, enter_method, leave_method};
 use crate::receiver_ends::end_on;
 use crate::receivers::{Callee, Destination, find_callee, take_call};
-use crate::stepping::{Turn, step, step_plain};
 use crate::walk_natives::native_in_walk;
 use grain_frame::{Activation, Context, Progress, Run};
 use grain_global::Steps;
@@ -33,74 +31,11 @@ use grain_program::Function;
 use grain_value::{FnPtr, OutOfMemory};
 use std::sync::ledger::Ledger;
 
-// Does the instruction at which the frame stands, which is neither `call` nor `call_fn_ptr`.
-#[cycle(run)]
-#[cold]
-#[inline(never)]
-pub(crate) fn step_or_walk<H: Host, L: Ledger>(
-    run: &mut Run<H>,
-    context: Context<'_>,
-    host: &mut H,
-    steps: &mut Steps<L>,
-    frame: &mut Activation,
-) -> Result<Progress, OutOfMemory>
-    requires runs { Runs context.program.now frame.old run.old }
-    requires none { NoneAbove run.old.level run.old.receivers }
-    requires calls_nothing { CallsNothing context.program.now frame.old }
-    ensures stepped { Stepped (setup_of H.law context.entry)
-        (moment frame.old run.old steps.old host.old) result
-        (moment frame.new run.new steps.new host.new) }
-{
-    match step_plain(run, context, host, steps, frame) {
-        Err(e) => Err(e),
-        Ok(done) => match done {
-            Some(progress) => Ok(progress),
-            None => walk_or_wait(run, context, host, steps, frame),
-        },
-    }
-}
-
-// The same, in a function of its own: what a chain needs, or an instruction that waits for a native, costs
-// a plain instruction nothing.
-#[cycle(run)]
-#[cold]
-#[inline(never)]
-fn walk_or_wait<H: Host, L: Ledger>(
-    run: &mut Run<H>,
-    context: Context<'_>,
-    host: &mut H,
-    steps: &mut Steps<L>,
-    frame: &mut Activation,
-) -> Result<Progress, OutOfMemory>
-    requires runs { Runs context.program.now frame.old run.old }
-    requires none { NoneAbove run.old.level run.old.receivers }
-    requires calls_nothing { CallsNothing context.program.now frame.old }
-    ensures stepped { Stepped (setup_of H.law context.entry)
-        (moment frame.old run.old steps.old host.old) result
-        (moment frame.new run.new steps.new host.new) }
-{
-    match step(run, context, host, steps, frame) {
-        Err(e) => Err(e),
-        Ok(turn) => match turn {
-            Turn::Done(progress) => Ok(progress),
-            Turn::Waits(waiting) => wait_for_native(run, context, host, steps, frame, waiting),
-            Turn::Chain { index, next } => {
-                walk_chain(run, context, host, steps, frame, index, next)
-            }
-            Turn::Receiver {
-                destination,
-                count,
-                next,
-            } => call_with(run, context, host, steps, frame, destination, count, next),
-        },
-    }
-}
-
 // `chain`: walks the chain, and calls each function that the walk needs in a frame of its own.
 #[cycle(run)]
 #[cold]
 #[inline(never)]
-fn walk_chain<H: Host, L: Ledger>(
+pub(crate) fn walk_chain<H: Host, L: Ledger>(
     run: &mut Run<H>,
     context: Context<'_>,
     host: &mut H,
@@ -165,7 +100,7 @@ fn walk_chain<H: Host, L: Ledger>(
 #[cycle(run)]
 #[cold]
 #[inline(never)]
-fn call_with<H: Host, L: Ledger>(
+pub(crate) fn call_with<H: Host, L: Ledger>(
     run: &mut Run<H>,
     context: Context<'_>,
     host: &mut H,

@@ -65,13 +65,15 @@ pub(crate) fn jump<H: Host, L: Ledger>(
     run.jump_to(context, host, steps, frame, target as usize)
 }
 
-// Whether an instruction is plain: it walks along no place, calls no pointer with a receiver, and asks
-// the host for no native.
+// Whether an instruction is plain: it calls nothing, walks along no place, and asks the host for no
+// native.
 #[inline(always)]
 fn is_plain(op: Op) -> bool
     ensures { result ≡ is_plain op }
 {
     match op {
+        Op::Call(_, _) => false,
+        Op::CallFnPtr(_) => false,
         Op::Chain(_) => false,
         Op::CallFnPtrMethod(_) => false,
         Op::CallFnPtrOnLocal(_, _) => false,
@@ -83,8 +85,8 @@ fn is_plain(op: Op) -> bool
     }
 }
 
-// Does the instruction at which the frame stands, which is neither `call` nor `call_fn_ptr`, if it is
-// plain. Else nothing is done, and there is no progress.
+// Does the instruction at which the frame stands if it is plain. Else nothing is done, and there is no
+// progress.
 #[inline(always)]
 pub(crate) fn step_plain<H: Host, L: Ledger>(
     run: &mut Run<H>,
@@ -94,7 +96,6 @@ pub(crate) fn step_plain<H: Host, L: Ledger>(
     frame: &mut Activation,
 ) -> Result<Option<Progress>, OutOfMemory>
     requires runs { Runs context.program.now frame.old run.old }
-    requires calls_nothing { CallsNothing context.program.now frame.old }
     ensures steps { StepsIfPlain (setup_of H.law context.entry)
         (moment frame.old run.old steps.old host.old) result
         (moment frame.new run.new steps.new host.new) }

@@ -4,8 +4,10 @@ use Rattle.grain_frame.specs.Abstraction.{frame_in, this_of, is_out, moment, abs
 use Rattle.grain_vm.specs.Driving.{IsApart}
 use Rattle.grain_vm.specs.Methods.{NoneAbove, given_to}
 use Rattle.grain_frame.specs.declared.waiting.Performed.TheVariants as performed
-use Rattle.grain_frame.specs.lemmas.Bound.{as_bound}
-use Rattle.grain_vm.proofs.Found.{call_pending, done_here, found_on_copy, found_stepped, function_pending, is_function, pointer_pending, finds_of, named_found, call_refused, none_numbered, pointed_done, pointed_found}
+use Rattle.grain_frame.specs.lemmas.Bound.{arm_bound, as_bound}
+use Rattle.grain_vm.proofs.Found.{done_here, found_on_copy, found_stepped, function_found_so, is_function, pointer_found, finds_of, call_refused, none_numbered, pointed_done, pointed_found}
+use Rattle.grain_vm.specs.Attempts.{IsPending}
+use Rattle.grain_vm.specs.declared.attempts.Pending.{Pending}
 use Rattle.grain_vm.proofs.Plain.{stepped_from}
 use Rattle.grain_vm.proofs.Calling.{call_ran, has_begun, not_begun, entered_with, kept_with, refused_here, refused_this, there_is, outer_is}
 use Rattle.grain_vm.proofs.ChainAhead.{chain_stepped}
@@ -46,7 +48,7 @@ use Rattle.grain_value.specs.Cells.{flat}
 use Rattle.grain_value.specs.Operands.{arguments, read_write, under}
 use Rattle.grain_value.specs.Writing.{type_name_of}
 use Rattle.grain_fault.specs.Problems.{Plain, DataRace, MismatchDataType}
-use Rattle.grain_program.specs.Lookups.{CalledByText, function_by_text}
+use Rattle.grain_program.specs.Lookups.{CalledByText, function_by_text, function_of}
 use Rattle.grain_stack.specs.Views.{StacksView}
 use Rattle.grain_means.specs.Simulation.{stopped, world}
 use Rattle.grain_frame.specs.declared.runs.Run.{Run}
@@ -278,17 +280,30 @@ loops::run_frame-frame-preserved g t c =
     c.in-Ok.ensures.catches c.in-Ok.ensures.around c.in-Some.is (offers.goes at refl refl refl)
     offers.kept (offers.typed at) c.catch.ensures.before
 
-pub loops::do_or_find-returns-in-Some : goal.loops::do_or_find-returns-in-Some
-loops::do_or_find-returns-in-Some g t c = record {
-  finds = function_pending g.H.Host.law c.args.context.program.now c.args.context.engine.now
-      c.args.frame.now c.args.run.now c.args.steps.now c.in-Call.name c.in-Call.count
-      c.in-Call.next c.in-Some.number c.args.host.now c.args.pending c.in-Call.is
-      c.requires.pending (rw (c.from.ensures, c.from-in-Call.ensures) at c.in-Some.ensures.exact)
-      (rw (c.from.ensures, c.from-in-Call.ensures) at c.in-Some.ensures.called);
+pub loops::do_or_find-returns-in-Function : goal.loops::do_or_find-returns-in-Function
+loops::do_or_find-returns-in-Function g t c = record {
+  finds = function_found_so g.H.Host.law c.args.context.program.now c.args.context.engine.now
+      c.args.frame.now c.args.run.now c.args.steps.now c.in-Function.number c.in-Function.next
+      c.args.host.now c.way_of.result c.in-Function.is c.way_of.ensures;
 }
 
-pub loops::do_or_find-returns-in-Other : goal.loops::do_or_find-returns-in-Other
-loops::do_or_find-returns-in-Other g t c =
+pub loops::do_or_find-returns-in-Pointer : goal.loops::do_or_find-returns-in-Pointer
+loops::do_or_find-returns-in-Pointer g t c =
+    let found = c.find_pointed-found in
+    let law = g.H.Host.law in
+    let p = c.args.context.program.now in
+    let engine = c.args.context.engine.now in
+    record {
+      finds = found_on_copy law p engine c.args.frame.now found.new.frame c.args.run.now
+          found.new.run c.args.steps.now found.new.steps c.args.host.now found.new.host found.result
+          (pointer_found law p engine c.args.frame.now found.new.frame c.args.run.now found.new.run
+          c.args.steps.now found.new.steps c.in-Pointer.count c.in-Pointer.next c.args.host.now
+          found.new.host c.way_of.result found.result c.requires.runs c.in-Pointer.is
+          c.way_of.ensures found.ensures.finds);
+    }
+
+pub loops::do_or_find-returns-in-Apart : goal.loops::do_or_find-returns-in-Apart
+loops::do_or_find-returns-in-Apart g t c =
     let did = c.step_or_walk-progress in
     rw c.of.ensures (record {
       finds = found_on_copy g.H.Host.law c.args.context.program.now c.args.context.engine.now
@@ -299,50 +314,16 @@ loops::do_or_find-returns-in-Other g t c =
           c.args.host.now did.new.host did.result did.ensures.stepped);
     })
 
-pub loops::do_or_find-returns : goal.loops::do_or_find-returns
-loops::do_or_find-returns g t c =
-    let found = c.find_apart-found in
-    record {
-      finds = found_on_copy g.H.Host.law c.args.context.program.now c.args.context.engine.now
-          c.args.frame.now found.new.frame c.args.run.now found.new.run c.args.steps.now
-          found.new.steps c.args.host.now found.new.host found.result found.ensures.finds;
-    }
+pub apart::step_apart-returns-in-Call : goal.apart::step_apart-returns-in-Call
+apart::step_apart-returns-in-Call g t c =
+    let at = subst (λ (q : Pending). IsPending c.args.context.program.now c.args.frame.now
+    c.args.run.now q) c.in-Call.is c.pending_at.ensures in
+    record { stepped = arm_bound refl refl at c.requires.runs c.call_native.ensures.performs }
 
-pub finding::find_apart-returns-in-Call : goal.finding::find_apart-returns-in-Call
-finding::find_apart-returns-in-Call g t c =
-    let found = c.find_named in
-    record {
-      finds = call_pending g.H.Host.law c.args.context.program.now c.args.context.engine.now
-          c.args.frame.now found.new.frame c.args.run.now found.new.run c.args.steps.now
-          found.new.steps c.in-Call.name c.in-Call.count c.in-Call.next c.args.host.now
-          found.new.host c.pending_at.result found.result c.requires.runs c.in-Call.is
-          c.pending_at.ensures found.ensures.finds;
-    }
-
-pub finding::find_apart-returns-in-Pointer : goal.finding::find_apart-returns-in-Pointer
-finding::find_apart-returns-in-Pointer g t c =
-    let found = c.find_pointed in
-    record {
-      finds = pointer_pending g.H.Host.law c.args.context.program.now c.args.context.engine.now
-          c.args.frame.now found.new.frame c.args.run.now found.new.run c.args.steps.now
-          found.new.steps c.in-Pointer.count c.in-Pointer.next c.args.host.now found.new.host
-          c.pending_at.result found.result c.requires.runs c.in-Pointer.is c.pending_at.ensures
-          found.ensures.finds;
-    }
-
-pub finding::find_apart-returns-in-Other : goal.finding::find_apart-returns-in-Other
-finding::find_apart-returns-in-Other g t c =
-    let did = c.step_or_walk in
-    rw c.of.ensures (record {
-      finds = done_here g.H.Host.law c.args.context.program.now c.args.context.engine.now
-          c.args.frame.now did.new.frame c.args.run.now did.new.run c.args.steps.now did.new.steps
-          c.args.host.now did.new.host did.result did.ensures.stepped;
-    })
-
-pub method_runs::step_or_walk-returns-in-None : goal.method_runs::step_or_walk-returns-in-None
-method_runs::step_or_walk-returns-in-None g t c =
+pub apart::step_or_walk-returns-in-None : goal.apart::step_or_walk-returns-in-None
+apart::step_or_walk-returns-in-None g t c =
     let did = c.step_plain.new in
-    let walked = c.walk_or_wait in
+    let walked = c.step_apart in
     record {
       stepped = stepped_from g.H.Host.law c.args.context.program.now c.args.context.engine.now
           c.args.frame.now did.frame c.args.run.now did.run c.args.steps.now did.steps
@@ -351,8 +332,8 @@ method_runs::step_or_walk-returns-in-None g t c =
           c.in-Ok.done c.in-None.is c.in-Ok.ensures.steps walked.ensures.stepped;
     }
 
-pub method_runs::walk_or_wait-returns-in-Waits : goal.method_runs::walk_or_wait-returns-in-Waits
-method_runs::walk_or_wait-returns-in-Waits g t c =
+pub apart::walk_or_wait-returns-in-Waits : goal.apart::walk_or_wait-returns-in-Waits
+apart::walk_or_wait-returns-in-Waits g t c =
     let did = c.step.new in
     let waited = c.wait_for_native in
     record {
@@ -362,8 +343,8 @@ method_runs::walk_or_wait-returns-in-Waits g t c =
           c.in-Ok.ensures.steps c.requires.runs waited.ensures.goes;
     }
 
-pub method_runs::walk_or_wait-returns-in-Chain : goal.method_runs::walk_or_wait-returns-in-Chain
-method_runs::walk_or_wait-returns-in-Chain g t c =
+pub apart::walk_or_wait-returns-in-Chain : goal.apart::walk_or_wait-returns-in-Chain
+apart::walk_or_wait-returns-in-Chain g t c =
     let did = c.step.new in
     let walked = c.walk_chain in
     record {
@@ -375,8 +356,8 @@ method_runs::walk_or_wait-returns-in-Chain g t c =
           walked.ensures.performs;
     }
 
-pub method_runs::walk_or_wait-returns-in-Receiver : goal.method_runs::walk_or_wait-returns-in-Receiver
-method_runs::walk_or_wait-returns-in-Receiver g t c =
+pub apart::walk_or_wait-returns-in-Receiver : goal.apart::walk_or_wait-returns-in-Receiver
+apart::walk_or_wait-returns-in-Receiver g t c =
     let did = c.step.new in
     let called = c.call_with in
     record {
@@ -772,38 +753,20 @@ method_runs::call_on-returns-in-Native g t c =
           ended.ensures.implements ended.ensures.carries;
     }
 
-pub finding::find_named-returns-in-None : goal.finding::find_named-returns-in-None
-finding::find_named-returns-in-None g t c =
+pub asks::call_native-returns : goal.asks::call_native-returns
+asks::call_native-returns g t c =
     let p = c.args.context.program.now in
-    let engine = c.args.context.engine.now in
-    let s = c.args.run.now in
-    let f = c.args.frame.now in
-    let none : function_found p c.args.name c.args.count ≡ None = search rules in
+    let none : function_found p c.args.name c.args.count ≡ None =
+    none_numbered p (function_of p c.args.name c.args.count) (sym c.requires.missing) in
     let named : c.name-name.result.now ≡ name_of p c.args.name =
-    c.name-name.ensures ∙ ap (name_of p) c.from-in-None.ensures in
+    c.name-name.ensures ∙ ap (name_of p) c.from.ensures in
     let did = c.native_by_name in
-    rw c.of.ensures (record {
-      finds = finds_of g.H.Host.law p engine f did.new.frame s did.new.run c.args.steps.now
-          did.new.steps (op.Call c.args.name c.args.count) c.args.next c.args.host.now did.new.host
-          did.result
-          (named_done g.H.Host.law p engine f did.new.frame s did.new.run c.args.steps.now
-          did.new.steps c.args.name c.args.count c.args.next c.args.host.now did.new.host did.result
-          c.name-name.result.now c.from-count.result none named c.from-count.ensures
-          did.ensures.implements);
-    })
-
-pub finding::find_named-returns-in-Some : goal.finding::find_named-returns-in-Some
-finding::find_named-returns-in-Some g t c = record {
-  finds = (
-    refl,
-    named_found g.H.Host.law c.args.context.program.now c.args.context.engine.now
-        c.args.frame.now c.args.run.now c.args.steps.now c.args.name c.args.count c.args.next
-        c.in-Some.number c.args.host.now
-        (rw (c.from.ensures, c.from-count.ensures) at c.in-Some.ensures.exact)
-        (rw (c.from.ensures, c.from-count.ensures) at c.in-Some.ensures.called)
-        c.requires.ready.operands,
-  );
-}
+    record {
+      performs = named_done g.H.Host.law p c.args.context.engine.now c.args.frame.now did.new.frame
+          c.args.run.now did.new.run c.args.steps.now did.new.steps c.args.name c.args.count
+          c.args.next c.args.host.now did.new.host did.result c.name-name.result.now
+          c.from-count.result none named c.from-count.ensures did.ensures.implements;
+    }
 
 pub finding::find_pointed-returns-in-Lent : goal.finding::find_pointed-returns-in-Lent
 finding::find_pointed-returns-in-Lent g t c =

@@ -52,8 +52,8 @@ abbrev pub decreases-finding::find_pointed : goal.decreases-finding::find_pointe
 decreases-finding::find_pointed g l =
     32 * left l.context.engine.now l.run.now.count l.frame.now.address + 7
 
-abbrev pub decreases-finding::find_named : goal.decreases-finding::find_named
-decreases-finding::find_named g l =
+abbrev pub decreases-asks::call_native : goal.decreases-asks::call_native
+decreases-asks::call_native g l =
     32 * left l.context.engine.now l.run.now.count l.frame.now.address + 7
 
 abbrev pub decreases-method_runs::walk_chain : goal.decreases-method_runs::walk_chain
@@ -76,17 +76,17 @@ abbrev pub decreases-method_runs::call_with : goal.decreases-method_runs::call_w
 decreases-method_runs::call_with g l =
     32 * left l.context.engine.now l.run.now.count l.frame.now.address + 9
 
-abbrev pub decreases-method_runs::walk_or_wait : goal.decreases-method_runs::walk_or_wait
-decreases-method_runs::walk_or_wait g l =
+abbrev pub decreases-apart::walk_or_wait : goal.decreases-apart::walk_or_wait
+decreases-apart::walk_or_wait g l =
     32 * left l.context.engine.now l.run.now.count l.frame.now.address + 10
 
-abbrev pub decreases-method_runs::step_or_walk : goal.decreases-method_runs::step_or_walk
-decreases-method_runs::step_or_walk g l =
-    32 * left l.context.engine.now l.run.now.count l.frame.now.address + 11
-
-abbrev pub decreases-finding::find_apart : goal.decreases-finding::find_apart
-decreases-finding::find_apart g l =
+abbrev pub decreases-apart::step_or_walk : goal.decreases-apart::step_or_walk
+decreases-apart::step_or_walk g l =
     32 * left l.context.engine.now l.run.now.count l.frame.now.address + 12
+
+abbrev pub decreases-apart::step_apart : goal.decreases-apart::step_apart
+decreases-apart::step_apart g l =
+    32 * left l.context.engine.now l.run.now.count l.frame.now.address + 11
 
 abbrev pub decreases-loops::do_or_find : goal.decreases-loops::do_or_find
 decreases-loops::do_or_find g l =
