@@ -66,10 +66,6 @@ curried_is : (ds : List Dynamic) → map read_write ds ≡ map (λ t. read_write
 curried_is [] = refl
 curried_is (d ∷ ds) = rw (value_of-tree d, curried_is ds) refl
 
--- a frame that takes from another the address, the floor and the slot
-abbrev taking : Activation → Activation → Activation
-taking f g = record f { address = g.address; floor = g.floor; slot = g.slot }
-
 -- what is kept from a run on that differs in its operands alone
 pub kept_before : {H : Type 0} (f f2 : Activation) (s s1 s2 : Run H) →
     s1 ≡ record s { stacks = record s.stacks { operands = s1.stacks.operands } } →
@@ -243,14 +239,6 @@ pub finds_of : {H : Type 0} (law : Law H) (p : View) (engine : Engine) (f f' : A
 finds_of law p engine f f' s s' n n' o next host host' (Ok q) did = did
 finds_of law p engine f f' s s' n n' o next host host' (Err e) did = did
 
--- the same of the instruction at which a frame stands
-pub done_here : {H : Type 0} (law : Law H) (p : View) (engine : Engine) (f f' : Activation)
-    (s s' : Run H) (n n' : StepsView) (host host' : H) (r : Result Progress OutOfMemory) →
-    Stepped (setup law p engine) (moment f s n host) r (moment f' s' n' host') →
-    FindsHere (setup law p engine) (moment f s n host) (found_of r) (moment f' s' n' host')
-done_here law p engine f f' s s' n n' host host' (Ok q) did = did
-done_here law p engine f f' s s' n n' host host' (Err e) did = did
-
 -- what the instruction at which a frame stands comes to
 found_here : {H : Type 0} (law : Law H) (p : View) (engine : Engine) (f f' : Activation)
     (s s' : Run H) (n n' : StepsView) (o : Op) (next : ℕ) (host host' : H)
@@ -283,32 +271,29 @@ function_found_so law p engine f s n number next host x is ways =
 
 -- what `call_fn_ptr` comes to
 pub pointer_found : {H : Type 0} (law : Law H) (p : View) (engine : Engine) (f f' : Activation)
-    (s s' : Run H) (n n' : StepsView) (count next : ℕ) (host host' : H) (x : Way)
-    (r : Result Found OutOfMemory) → Runs p f s → x ≡ way.Pointer count next → IsWay p f s x →
+    (s s' : Run H) (n n' : StepsView) (count next : ℕ) (host host' : H)
+    (r : Result Found OutOfMemory) → Runs p f s → StandsAt p f s (op.CallFnPtr count) next →
     Finds (setup law p engine) (moment f s n host) (op.CallFnPtr count) next r
     (moment f' s' n' host') →
     FindsHere (setup law p engine) (moment f s n host) r (moment f' s' n' host')
-pointer_found law p engine f f' s s' n n' count next host host' x r runs is ways did =
-    found_here law p engine f f' s s' n n' (op.CallFnPtr count) next host host' r runs
-    (subst (λ (y : Way). IsWay p f s y) is ways)
+pointer_found law p engine f f' s s' n n' count next host host' r runs at did =
+    found_here law p engine f f' s s' n n' (op.CallFnPtr count) next host host' r runs at
     (record { leads = refl; gives = refl; keeps = refl }) did
 
--- the frame has its chunk and its base, whatever came of its instruction
-kept_here : {H : Type 0} (m : Setup H) (a b : Moment H) (r : Result Found OutOfMemory) →
-    FindsHere m a r b → (b.frame.chunk ≡ a.frame.chunk) × (b.frame.base ≡ a.frame.base)
-kept_here m a b (Ok (found.Done q)) did = (did.kept.chunk, did.kept.base)
-kept_here m a b (Ok (found.Function number next)) did = rw did.3.frame (refl, refl)
-kept_here m a b (Err e) did = (did.kept.chunk, did.kept.base)
+-- it was done without a function
+pub is_done : {H : Type 0} (m : Setup H) (a b : Moment H) (x : Found) (q : Progress) →
+    x ≡ found.Done q → FindsHere m a (Ok x) b → Stepped m a (Ok q) b
+is_done m a b x q is finds = subst (λ (y : Found). FindsHere m a (Ok y) b) is finds
 
--- what it comes to on a copy of the frame
-pub found_on_copy : {H : Type 0} (law : Law H) (p : View) (engine : Engine) (f f' : Activation)
-    (s s' : Run H) (n n' : StepsView) (host host' : H) (r : Result Found OutOfMemory) →
-    FindsHere (setup law p engine) (moment f s n host) r (moment f' s' n' host') →
-    FindsHere (setup law p engine) (moment f s n host) r (moment (taking f f') s' n' host')
-found_on_copy law p engine f f' s s' n n' host host' r did =
-    let kept = kept_here (setup law p engine) (moment f s n host) (moment f' s' n' host') r did in
-    subst (λ (a : Activation). FindsHere (setup law p engine) (moment f s n host) r
-    (moment a s' n' host')) (taken_back f f' kept.0 kept.1) did
+-- what was done on a copy of the frame, from which the frame takes what may have changed
+pub stepped_on_copy : {H : Type 0} (law : Law H) (p : View) (engine : Engine) (f f' : Activation)
+    (s s' : Run H) (n n' : StepsView) (host host' : H) (r : Result Progress OutOfMemory) →
+    Stepped (setup law p engine) (moment f s n host) r (moment f' s' n' host') →
+    Stepped (setup law p engine) (moment f s n host) r
+    (moment (record f { address = f'.address; floor = f'.floor; slot = f'.slot }) s' n' host')
+stepped_on_copy law p engine f f' s s' n n' host host' r did =
+    subst (λ (a : Activation). Stepped (setup law p engine) (moment f s n host) r
+    (moment a s' n' host')) (taken_back f f' did.kept.chunk did.kept.base) did
 
 -- the function that was found
 pub is_function : {H : Type 0} (law : Law H) (p : View) (engine : Engine) (f f' : Activation)

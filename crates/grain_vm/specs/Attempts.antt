@@ -10,6 +10,8 @@ use Rattle.grain_global.specs.StepsView.{StepsView}
 use Rattle.grain_frame.specs.declared.activations.Activation.{Activation}
 use Rattle.grain_frame.specs.declared.runs.Run.{Run}
 use Rattle.grain_frame.specs.declared.runs.Progress.TheVariants as progress
+use Rattle.grain_vm.specs.declared.attempts.Apart.{Apart}
+use Rattle.grain_vm.specs.declared.attempts.Apart.TheVariants as apart
 use Rattle.grain_vm.specs.declared.attempts.Attempt.{Attempt}
 use Rattle.grain_vm.specs.declared.attempts.Attempt.TheVariants as attempt
 use Rattle.grain_vm.specs.declared.attempts.Pending.{Pending}
@@ -48,13 +50,18 @@ CallsNoFunction program f =
     ((name count : ℕ) → o ≡ op.Call name count → function_of program name count ≡ None)
     × ((count : ℕ) → o ≡ op.CallFnPtr count → ⊥)
 
+-- what is known of an instruction that is done apart from the loop
+abbrev pub StandsApart : {H : Type 0} → View → Activation → Run H → Apart → Type 0
+StandsApart program f s (apart.Pointer count next) =
+    StandsAt program f s (op.CallFnPtr count) next
+StandsApart program f s apart.Other = CallsNoFunction program f
+
 -- what is known of the way in which the instruction is done
 abbrev pub IsWay : {H : Type 0} → View → Activation → Run H → Way → Type 0
 IsWay program f s (way.Function number next) =
     (name : ℕ) × (count : ℕ) × StandsAt program f s (op.Call name count) next
     × (Some number ≡ function_of program name count) × Called program name count number
-IsWay program f s (way.Pointer count next) = StandsAt program f s (op.CallFnPtr count) next
-IsWay program f s way.Apart = CallsNoFunction program f
+IsWay program f s (way.Apart a) = StandsApart program f s a
 
 -- what is known of an instruction that is still to be done
 abbrev pub IsPending : {H : Type 0} → View → Activation → Run H → Pending → Type 0

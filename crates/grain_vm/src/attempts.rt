@@ -43,11 +43,18 @@ pub enum Way {
     /// It calls the function of this number on the last operands; afterwards the frame goes on at
     /// the address `next`.
     Function { number: usize, next: usize },
+    /// It is done apart from the loop.
+    Apart(Apart),
+}
+
+/// An instruction that is done apart from the loop.
+#[derive(Clone, Copy, Debug, PartialEq, Eq)]
+pub enum Apart {
     /// It calls the pointer under the last `count` operands; afterwards the frame goes on at
     /// the address `next`.
     Pointer { count: u8, next: usize },
-    /// It is no call of a function by its name, and not `call_fn_ptr`.
-    Apart,
+    /// Any other, which is no call of a function by its name.
+    Other,
 }
 
 impl Attempt {
@@ -151,11 +158,11 @@ pub(crate) fn way_of<H: Host>(
                 .function(u32::from(name), usize::from(count))
             {
                 Some(number) => Way::Function { number, next },
-                None => Way::Apart,
+                None => Way::Apart(Apart::Other),
             }
         }
-        Pending::Pointer { count, next } => Way::Pointer { count, next },
-        Pending::Other => Way::Apart,
+        Pending::Pointer { count, next } => Way::Apart(Apart::Pointer { count, next }),
+        Pending::Other => Way::Apart(Apart::Other),
     }
 }
 

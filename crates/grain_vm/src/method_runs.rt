@@ -230,7 +230,7 @@ fn call_on<H: Host, L: Ledger>(
 #[cycle(run)]
 #[cold]
 #[inline(never)]
-fn call_apart<H: Host, L: Ledger>(
+pub(crate) fn call_apart<H: Host, L: Ledger>(
     run: &mut Run<H>,
     context: Context<'_>,
     host: &mut H,

@@ -5,7 +5,7 @@ use Rattle.grain_vm.specs.Driving.{IsApart}
 use Rattle.grain_vm.specs.Methods.{NoneAbove, given_to}
 use Rattle.grain_frame.specs.declared.waiting.Performed.TheVariants as performed
 use Rattle.grain_frame.specs.lemmas.Bound.{arm_bound, as_bound}
-use Rattle.grain_vm.proofs.Found.{done_here, found_on_copy, found_stepped, function_found_so, is_function, pointer_found, finds_of, call_refused, none_numbered, pointed_done, pointed_found}
+use Rattle.grain_vm.proofs.Found.{found_stepped, function_found_so, is_done, is_function, pointer_found, stepped_on_copy, finds_of, call_refused, none_numbered, pointed_done, pointed_found}
 use Rattle.grain_vm.specs.Attempts.{IsPending}
 use Rattle.grain_vm.specs.declared.attempts.Pending.{Pending}
 use Rattle.grain_vm.proofs.Plain.{stepped_from}
@@ -108,18 +108,76 @@ loops::call-returns-then-begun-clause-goes g t c =
 pub loops::proceed-returns-in-Function : goal.loops::proceed-returns-in-Function
 loops::proceed-returns-in-Function g t c =
     let p = c.args.context.program.now in
-    let here = is_function g.H.Host.law p c.args.context.engine.now c.args.frame.now
-    c.do_or_find.new.frame c.args.run.now c.do_or_find.new.run c.args.steps.now c.do_or_find.new.steps
-    c.in-Ok.found c.in-Function.number c.in-Function.next c.args.host.now c.do_or_find.new.host
-    c.in-Function.is c.in-Ok.ensures.finds in
+    let engine = c.args.context.engine.now in
+    let f = c.args.frame.now in
+    let s = c.args.run.now in
+    let n = c.args.steps.now in
+    let host = c.args.host.now in
     record {
-      stepped = found_stepped g.H.Host.law p c.args.context.engine.now c.args.frame.now
-          c.do_or_find.new.frame c.call.new.frame c.args.run.now c.do_or_find.new.run c.call.new.run
-          c.args.steps.now c.do_or_find.new.steps c.call.new.steps c.in-Function.number
-          c.in-Function.next c.args.host.now c.do_or_find.new.host c.call.new.host
-          c.function_at-function.result.now c.requires.runs here
+      stepped = found_stepped g.H.Host.law p engine f f c.call.new.frame s s c.call.new.run n n
+          c.call.new.steps c.in-Function.number c.in-Function.next host host c.call.new.host
+          c.function_at-function.result.now c.requires.runs
+          (function_found_so g.H.Host.law p engine f s n c.in-Function.number c.in-Function.next
+          host c.way_of.result c.in-Function.is c.way_of.ensures)
           c.function_at-function.ensures.value c.call.ensures.goes c.call.ensures.kept
           c.call.ensures.lands c.call.ensures.before;
+    }
+
+pub loops::proceed-returns-in-Apart : goal.loops::proceed-returns-in-Apart
+loops::proceed-returns-in-Apart g t c =
+    let did = c.step_apart-progress in
+    record {
+      stepped = stepped_on_copy g.H.Host.law c.args.context.program.now c.args.context.engine.now
+          c.args.frame.now did.new.frame c.args.run.now did.new.run c.args.steps.now did.new.steps
+          c.args.host.now did.new.host did.result did.ensures.stepped;
+    }
+
+pub apart::call_pointer-returns-in-Function : goal.apart::call_pointer-returns-in-Function
+apart::call_pointer-returns-in-Function g t c =
+    let law = g.H.Host.law in
+    let p = c.args.context.program.now in
+    let engine = c.args.context.engine.now in
+    let found = c.find_pointed.new in
+    let called = c.call_apart in
+    let here = is_function law p engine c.args.frame.now found.frame c.args.run.now found.run
+    c.args.steps.now found.steps c.in-Ok.found c.in-Function.number c.in-Function.next
+    c.args.host.now found.host c.in-Function.is
+    (pointer_found law p engine c.args.frame.now found.frame c.args.run.now found.run
+    c.args.steps.now found.steps c.args.count c.args.next c.args.host.now found.host
+    (Ok c.in-Ok.found) c.requires.runs c.requires.stands c.in-Ok.ensures.finds) in
+    record {
+      stepped = found_stepped law p engine c.args.frame.now found.frame called.new.frame
+          c.args.run.now found.run called.new.run c.args.steps.now found.steps called.new.steps
+          c.in-Function.number c.in-Function.next c.args.host.now found.host called.new.host
+          c.function_at-function.result.now c.requires.runs here
+          c.function_at-function.ensures.value called.ensures.goes called.ensures.kept
+          called.ensures.lands called.ensures.before;
+    }
+
+pub apart::call_pointer-returns-in-Done : goal.apart::call_pointer-returns-in-Done
+apart::call_pointer-returns-in-Done g t c =
+    let law = g.H.Host.law in
+    let p = c.args.context.program.now in
+    let engine = c.args.context.engine.now in
+    let found = c.find_pointed.new in
+    record {
+      stepped = is_done (setup law p engine)
+          (moment c.args.frame.now c.args.run.now c.args.steps.now c.args.host.now)
+          (moment found.frame found.run found.steps found.host) c.in-Ok.found c.in-Done.progress
+          c.in-Done.is
+          (pointer_found law p engine c.args.frame.now found.frame c.args.run.now found.run
+          c.args.steps.now found.steps c.args.count c.args.next c.args.host.now found.host
+          (Ok c.in-Ok.found) c.requires.runs c.requires.stands c.in-Ok.ensures.finds);
+    }
+
+pub apart::call_pointer-returns-in-Err : goal.apart::call_pointer-returns-in-Err
+apart::call_pointer-returns-in-Err g t c =
+    let found = c.find_pointed.new in
+    record {
+      stepped = pointer_found g.H.Host.law c.args.context.program.now c.args.context.engine.now
+          c.args.frame.now found.frame c.args.run.now found.run c.args.steps.now found.steps
+          c.args.count c.args.next c.args.host.now found.host (Err c.in-Err.e) c.requires.runs
+          c.requires.stands c.in-Err.ensures.finds;
     }
 
 pub loops::run_from-turn-smaller-in-Done : goal.loops::run_from-turn-smaller-in-Done
@@ -280,42 +338,8 @@ loops::run_frame-frame-preserved g t c =
     c.in-Ok.ensures.catches c.in-Ok.ensures.around c.in-Some.is (offers.goes at refl refl refl)
     offers.kept (offers.typed at) c.catch.ensures.before
 
-pub loops::do_or_find-returns-in-Function : goal.loops::do_or_find-returns-in-Function
-loops::do_or_find-returns-in-Function g t c = record {
-  finds = function_found_so g.H.Host.law c.args.context.program.now c.args.context.engine.now
-      c.args.frame.now c.args.run.now c.args.steps.now c.in-Function.number c.in-Function.next
-      c.args.host.now c.way_of.result c.in-Function.is c.way_of.ensures;
-}
-
-pub loops::do_or_find-returns-in-Pointer : goal.loops::do_or_find-returns-in-Pointer
-loops::do_or_find-returns-in-Pointer g t c =
-    let found = c.find_pointed-found in
-    let law = g.H.Host.law in
-    let p = c.args.context.program.now in
-    let engine = c.args.context.engine.now in
-    record {
-      finds = found_on_copy law p engine c.args.frame.now found.new.frame c.args.run.now
-          found.new.run c.args.steps.now found.new.steps c.args.host.now found.new.host found.result
-          (pointer_found law p engine c.args.frame.now found.new.frame c.args.run.now found.new.run
-          c.args.steps.now found.new.steps c.in-Pointer.count c.in-Pointer.next c.args.host.now
-          found.new.host c.way_of.result found.result c.requires.runs c.in-Pointer.is
-          c.way_of.ensures found.ensures.finds);
-    }
-
-pub loops::do_or_find-returns-in-Apart : goal.loops::do_or_find-returns-in-Apart
-loops::do_or_find-returns-in-Apart g t c =
-    let did = c.step_or_walk-progress in
-    rw c.of.ensures (record {
-      finds = found_on_copy g.H.Host.law c.args.context.program.now c.args.context.engine.now
-          c.args.frame.now did.new.frame c.args.run.now did.new.run c.args.steps.now did.new.steps
-          c.args.host.now did.new.host (found_of did.result)
-          (done_here g.H.Host.law c.args.context.program.now c.args.context.engine.now
-          c.args.frame.now did.new.frame c.args.run.now did.new.run c.args.steps.now did.new.steps
-          c.args.host.now did.new.host did.result did.ensures.stepped);
-    })
-
-pub apart::step_apart-returns-in-Call : goal.apart::step_apart-returns-in-Call
-apart::step_apart-returns-in-Call g t c =
+pub apart::call_or_walk-returns-in-Call : goal.apart::call_or_walk-returns-in-Call
+apart::call_or_walk-returns-in-Call g t c =
     let at = subst (λ (q : Pending). IsPending c.args.context.program.now c.args.frame.now
     c.args.run.now q) c.in-Call.is c.pending_at.ensures in
     record { stepped = arm_bound refl refl at c.requires.runs c.call_native.ensures.performs }
@@ -323,7 +347,7 @@ apart::step_apart-returns-in-Call g t c =
 pub apart::step_or_walk-returns-in-None : goal.apart::step_or_walk-returns-in-None
 apart::step_or_walk-returns-in-None g t c =
     let did = c.step_plain.new in
-    let walked = c.step_apart in
+    let walked = c.call_or_walk in
     record {
       stepped = stepped_from g.H.Host.law c.args.context.program.now c.args.context.engine.now
           c.args.frame.now did.frame c.args.run.now did.run c.args.steps.now did.steps
