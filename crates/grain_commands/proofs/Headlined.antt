@@ -13,14 +13,11 @@ use Rattle.grain_means.specs.Means.{Begin, Finish, Means}
 use Rattle.grain_listing.specs.Reading.{ListingView, reads}
 use Rattle.grain_listing.specs.declared.reasons.BadLine.{BadLine}
 use Rattle.grain_streams.specs.Streams.{added}
+use Rattle.grain_commands.proofs.Completed.{same_set_up}
 use Rattle.grain_commands.specs.Headline.{CoreListing, CoreEnds, PrintsCoreEnd}
 use Rattle.grain_commands.specs.Replies.{Counts, is_run}
 use Rattle.grain_commands.specs.Runs.{answer_report, engine_of, report, start, status_of}
 use Rattle.grain_commands.specs.Statuses.{RunEnds, IsRefused, Says, Beside, Gives, NoneRose, Completes}
-
--- a listing says one thing
-same_set_up : (bytes : List ℕ) (s t : ListingView) → reads bytes ≡ Ok s → reads bytes ≡ Ok t → t ≡ s
-same_set_up bytes s t one other = cc
 
 -- an end by the rules of the core is one by all rules
 abbrev pub CoreIsMeant : Type 0
@@ -46,7 +43,7 @@ core_end : MeansCore → (bytes : List ℕ) (listing : CoreListing bytes) (end :
 core_end of_core bytes listing end run =
     let s = listing.set_up in
     let means : MeansSo end s =
-    subst (MeansSo end) (same_set_up bytes listing.set_up run.set_up listing.said run.said)
+    subst (MeansSo end) (same_set_up (reads bytes) listing.set_up run.set_up listing.said run.said)
     (run.instructions, run.means) in
     of_core s.parts (engine_of s.limits s.fast_operators s.strict_properties) (start s.scope s.host)
     end listing.valid listing.core means.0 means.1
@@ -104,7 +101,8 @@ module _ (of_core : MeansCore) (words : List (List ℕ)) (input before now : Opt
   no_refusal r h =
       let refused = of_bytes input bytes (λ b. IsRefused b r) told h in
       refused.invalid (subst (λ (s : ListingView). IsProgram s.parts)
-      (sym (same_set_up bytes listing.set_up refused.set_up listing.said refused.said)) listing.valid)
+      (sym (same_set_up (reads bytes) listing.set_up refused.set_up listing.said refused.said))
+      listing.valid)
 
   tells : (status : ℕ) (text : List ℕ) → status ≤ 4 → Says words input status text →
       Told status text

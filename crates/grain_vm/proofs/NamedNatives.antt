@@ -155,18 +155,6 @@ it_ended e (Ok y) out did = absurd cc
 it_ended e (Err y) out did =
     record { same = did.same; kept = did.kept; lands = tt; before = did.before }
 
--- ---- on a copy of the frame
-
-pub on_copy : {H : Type 0} {m : Setup H} {a : Moment H} {rule : Computation H} {ts : List ℕ}
-    {takes gives : ℕ} {hs : List Handler} {r : Result Progress OutOfMemory} (f' : Activation)
-    (s' : Run H) (n' : StepsView) (host' : H) →
-    ImplementsBound m a rule ts takes gives hs r (moment f' s' n' host') →
-    ImplementsBound m a rule ts takes gives hs r
-    (moment (record a.frame { address = f'.address; floor = f'.floor; slot = f'.slot }) s' n' host')
-on_copy {m = m} {a} {rule} {ts} {takes} {gives} {hs} {r} f' s' n' host' did =
-    subst (λ (g : Activation). ImplementsBound m a rule ts takes gives hs r (moment g s' n' host'))
-    (taken_back a.frame f' did.kept.chunk did.kept.base) did
-
 -- ---- the instruction
 
 -- `call` of a name that no function has was done

@@ -1,5 +1,5 @@
 -- What an instruction that may call a function does before one is called.
-use Rattle.std.specs.Prelude.{ℕ, ◌≡◌, ◌<◌, ◌+◌, ◌-◌, ◌∷◌, [], length, slice_get, false, Some, Result, Ok, Err}
+use Rattle.std.specs.Prelude.{ℕ, ◌≡◌, ◌<◌, ◌+◌, ◌-◌, ◌∷◌, [], length, slice_get, Bool, true, false, Option, Some, None, Result, Ok, Err}
 use Rattle.grain_value.specs.declared.memory.OutOfMemory.{OutOfMemory}
 use Rattle.grain_program.specs.Effects.{takes_of, gives_of, leads_of, looping_of, handling_of}
 use Rattle.grain_program.specs.declared.code.effects.Handling.TheVariants as handling
@@ -99,3 +99,24 @@ StepsHere m a (Ok (turn.Chain index next)) b =
 StepsHere m a (Ok (turn.Receiver d count next)) b =
     StandsAt m.program a.frame a.run (op_on d count) next × (b ≡ a)
 StepsHere m a (Err e) b = Stepped m a (Err e) b
+
+-- the instruction calls nothing, walks along no place, and asks the host for no native
+abbrev pub is_plain : Op → Bool
+is_plain (op.Call name count) = false
+is_plain (op.CallFnPtr count) = false
+is_plain (op.Chain index) = false
+is_plain (op.CallFnPtrMethod count) = false
+is_plain (op.CallFnPtrOnLocal count slot) = false
+is_plain (op.CallFnPtrOnThis count) = false
+is_plain (op.CallOp name count token) = false
+is_plain (op.AssignLocalOp slot name k) = false
+is_plain (op.AssignThisOp k) = false
+is_plain o = true
+
+-- what came of the instruction at which the frame stands, where only a plain one is done
+abbrev pub StepsIfPlain : {H : Type 0} → Setup H → Moment H →
+    Result (Option Progress) OutOfMemory → Moment H → Type 0
+StepsIfPlain m a (Ok (Some p)) b = Stepped m a (Ok p) b
+StepsIfPlain m a (Ok None) b =
+    (b.frame ≡ a.frame) × (b.run ≡ a.run) × (b.counts ≡ a.counts) × (b.host ≡ a.host)
+StepsIfPlain m a (Err e) b = Stepped m a (Err e) b
