@@ -1,13 +1,15 @@
 -- The instruction that was fetched is the one at which the frame stands.
-use Rattle.std.proofs.Common.{refl}
+use Rattle.std.proofs.Common.{length, refl}
 use Rattle.grain_program.specs.declared.code.instruction_set.Op.TheVariants as op
 use Rattle.grain_frame.specs.lemmas.Arms.{stands, typed_with}
 use Rattle.grain_vm.proofs.attempts.pending_at.Goals as goal
 
 pub fetch-requires : goal.fetch-requires
-fetch-requires g c =
-    typed_with c.args.context.program.now c.args.frame.now c.args.run.now c.height-depth.result
-    c.height-depth.ensures c.requires.runs
+fetch-requires g c = (
+  length c.args.run.now.stacks.cursors,
+  typed_with c.args.context.program.now c.args.frame.now c.args.run.now c.height-depth.result
+      c.height-depth.ensures c.requires.runs,
+)
 
 pub returns-in-Call-default : goal.returns-in-Call-default
 returns-in-Call-default g c =

@@ -1,13 +1,15 @@
 -- The instruction that was fetched is the one at which the frame stands.
-use Rattle.std.proofs.Common.{refl}
+use Rattle.std.proofs.Common.{length, refl}
 use Rattle.grain_frame.specs.lemmas.Arms.{ready, stands, typed_with}
 use Rattle.grain_vm.proofs.Plain.{plain_asks, plain_calls, plain_runs}
 use Rattle.grain_vm.proofs.stepping.step_plain.Goals as goal
 
 pub fetch-op-requires : goal.fetch-op-requires
-fetch-op-requires g c =
-    typed_with c.args.context.program.now c.args.frame.now c.args.run.now c.height-depth.result
-    c.height-depth.ensures c.requires.runs
+fetch-op-requires g c = (
+  length c.args.run.now.stacks.cursors,
+  typed_with c.args.context.program.now c.args.frame.now c.args.run.now c.height-depth.result
+      c.height-depth.ensures c.requires.runs,
+)
 
 pub perform-requires-clause-stands : goal.perform-requires-clause-stands
 perform-requires-clause-stands g c =
