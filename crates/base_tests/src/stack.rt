@@ -58,6 +58,8 @@ fn handler(target: u32) -> Handler {
         target,
         variable: None,
         operands: 0,
+        cursors: 0,
+        totals: 0,
         scope: 0,
         caught: None,
     }

@@ -10,9 +10,10 @@ use Rattle.grain_program.specs.declared.code.parts.AssignOp.{AssignOp}
 use Rattle.grain_literals.specs.Steps.{and_then, present}
 use Rattle.grain_literals.specs.declared.reasons.Reason.TheVariants.{UnknownLabel}
 use Rattle.grain_listing.specs.Statements
-use Rattle.grain_listing.specs.Statements.{Piece, Byte, Goto, Statement, section, labels, pieces, width, address, assigns, label_address, code_of}
+use Rattle.grain_listing.specs.Statements.{Piece, Byte, Goto, Statement, section, labels, aims, pieces, width, address, assigns, label_address, code_of}
+use Rattle.grain_listing.specs.SwitchTargets.{all_known}
 use Rattle.grain_listing.specs.LineMeanings.{statements}
-use Rattle.grain_listing.specs.Reading.{ListingView, set_up, set_up_of, complete, assign_ops_of, reads, meaning, most_bytes}
+use Rattle.grain_listing.specs.Reading.{ListingView, look_up, set_up, set_up_of, complete, assign_ops_of, reads, meaning, most_bytes}
 use Rattle.grain_listing.specs.declared.reasons.BadLine.{BadLine}
 use Rattle.grain_listing.specs.declared.table.Section.{Section}
 use Rattle.grain_listing.specs.declared.table.Section.TheVariants as sections
@@ -170,15 +171,25 @@ coded all ops (Ok code) s h e =
     )
 coded all ops (Err x) s h e = absurd cc
 
+-- what comes after a test that has to be passed
+after_check : (known : Result (Unit {0}) BadLine) (r : Result ListingView BadLine)
+    (s : ListingView) → and_then known (λ _. r) ≡ Ok s → r ≡ Ok s
+after_check (Ok x) r s e = e
+after_check (Err x) r s e = absurd cc
+
 linked : (n : ℕ) (all : List Statement) (r : Result (List AssignOp) BadLine) (s : ListingView) →
     and_then r (λ ops. complete n (section all)
-    (and_then (code_of (labels all) (pieces all)) (λ code. Ok (set_up all ops code)))) ≡ Ok s →
+    (and_then (all_known (look_up all) (aims all)) (λ _.
+    and_then (code_of (labels all) (pieces all)) (λ code. Ok (set_up all ops code))))) ≡ Ok s →
     AreSaid all s
 linked n all (Ok ops) s e =
+    let known : Result (Unit {0}) BadLine = all_known (look_up all) (aims all) in
+    let coded_so : Result ListingView BadLine =
+    and_then (code_of (labels all) (pieces all)) (λ code. Ok (set_up all ops code)) in
     coded all ops (code_of (labels all) (pieces all)) s
     (sized (labels all) (pieces all))
-    (finished n (section all)
-    (and_then (code_of (labels all) (pieces all)) (λ code. Ok (set_up all ops code))) s e)
+    (after_check known coded_so s
+    (finished n (section all) (and_then known (λ _. coded_so)) s e))
 linked n all (Err x) s e = absurd cc
 
 -- what the lines have said together, how long the code is, and what the chains are

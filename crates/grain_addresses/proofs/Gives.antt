@@ -19,10 +19,11 @@ use Rattle.grain_listing.specs.Flags.{flag_of}
 use Rattle.grain_listing.specs.HostLines.{fail_of, stop_of}
 use Rattle.grain_listing.specs.Headers.{stack_of, assign_of, header_of, is_crowded}
 use Rattle.grain_listing.specs.ChainWords.{chain_of, step_of}
+use Rattle.grain_listing.specs.SwitchWords.{aim_of, case_of, range_of}
 use Rattle.grain_listing.specs.Instructions
 use Rattle.grain_listing.specs.Instructions.{kinds_of}
 use Rattle.grain_listing.specs.Table.{line_of, own_line, stands, is_block}
-use Rattle.grain_listing.specs.Statements.{Piece, Byte, Goto, Statement, blank, header, caps_line, source_line, limit_line, flag_line, fail_line, stop_line, const_line, name_line, op_line, assign_line, chain_line, step_line, scope_line, main_line, fn_line, end_line, code_line, label_line, section, caps, source, limits, consts, names, tokens, assigns, chains, last_steps, is_chain_open, functions, labels, label_address, open_block, width}
+use Rattle.grain_listing.specs.Statements.{Piece, Byte, Goto, Statement, blank, header, caps_line, source_line, limit_line, flag_line, fail_line, stop_line, const_line, name_line, op_line, assign_line, chain_line, step_line, switch_line, case_line, range_line, scope_line, main_line, fn_line, end_line, code_line, label_line, section, caps, source, limits, consts, names, tokens, assigns, chains, last_steps, switches, last_cases, last_ranges, is_chain_open, is_switch_open, functions, labels, label_address, open_block, width}
 use Rattle.grain_listing.specs.LineMeanings.{bytes, operand, code_operand, operands, limit_set, statement, before_colon, labelled, known, header_end, header_number, begun_by, in_section, says}
 use Rattle.grain_listing.specs.declared.table.Line.{Line}
 use Rattle.grain_listing.specs.declared.table.Line.TheVariants as lines
@@ -211,6 +212,23 @@ line_gives lines.Step n cs before =
     let room : Bool = nat_lt (length (last_steps (chains before))) 65536 in
     either (step_kind cs) (is_chain_open before) (cond room read (Err TooMany)) (Err OutOfPlace)
     (either (step_kind cs) room read (Err TooMany) (step_gives cs) tt) tt
+line_gives lines.Switch n cs before =
+    either kinds.Other (nat_lt (length (switches before)) 65536)
+    (and_then (aim_of n cs) (λ a. Ok (switch_line a))) (Err TooMany)
+    (step kinds.Other (aim_of n cs) (λ a. switch_line a) (λ x. refl)) tt
+line_gives lines.Case n cs before =
+    let read : Result Statement Reason = and_then (case_of n cs) (λ c. Ok (case_line c)) in
+    let room : Bool = nat_lt (length (last_cases (switches before))) 65536 in
+    either kinds.Other (is_switch_open before) (cond room read (Err TooMany)) (Err OutOfPlace)
+    (either kinds.Other room read (Err TooMany)
+    (step kinds.Other (case_of n cs) (λ c. case_line c) (λ x. refl)) tt) tt
+line_gives (lines.Range inclusive) n cs before =
+    let read : Result Statement Reason =
+    and_then (range_of inclusive n cs) (λ r. Ok (range_line r)) in
+    let room : Bool = nat_lt (length (last_ranges (switches before))) 65536 in
+    either kinds.Other (is_switch_open before) (cond room read (Err TooMany)) (Err OutOfPlace)
+    (either kinds.Other room read (Err TooMany)
+    (step kinds.Other (range_of inclusive n cs) (λ r. range_line r) (λ x. refl)) tt) tt
 line_gives lines.Entry n cs before =
     step kinds.Other (entry_of cs) (λ x. scope_line x) (λ x. refl)
 line_gives lines.Flag n cs before =

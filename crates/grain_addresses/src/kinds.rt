@@ -36,6 +36,7 @@ fn width_of(field: Field) -> usize
         | Field::Name(_)
         | Field::Assignment(_)
         | Field::Chain(_)
+        | Field::Switch(_)
         | Field::Token(_)
         | Field::Slot(_)
         | Field::Number(_) => 2,
@@ -133,6 +134,9 @@ fn kind_of(line: Line, rest: &[char]) -> LineKind
         | Line::Name
         | Line::Operator
         | Line::Assign
+        | Line::Switch
+        | Line::Case
+        | Line::Range(_)
         | Line::Entry
         | Line::Flag
         | Line::Fail

@@ -61,6 +61,7 @@ module _ {H : Type 0} (law : Law H) (p : View) (engine : Engine) (f : Activation
     l.4,
     l.5 ∙ ap (λ (q : StacksView). q.handlers) es,
     l.6,
+    l.7 ∙ ap (λ (q : StacksView). q.cursors) es,
   )
   lands_before f' s' n' host' ts takes gives hs (Err e) le es l = tt
 
@@ -209,6 +210,7 @@ module _ {H : Type 0} (law : Law H) (p : View) (engine : Engine) (f : Activation
       ap (λ (v : StacksView). v.handlers) same_stacks,
       ap (λ (v : StacksView). v.handlers) same_stacks,
       refl,
+      ap (λ (v : StacksView). v.cursors) same_stacks,
     );
     before = before;
   } where

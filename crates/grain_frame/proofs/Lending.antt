@@ -195,7 +195,7 @@ module _ {H : Type 0} (law : Law H) (p : View) (engine : Engine) (f : Activation
 
     used_lands : ContinuesAt engine s f end (moved f next) (next ∷ []) 1 0 s.stacks.handlers
         (Ok progress.Continues)
-    used_lands = rw is (inl refl, height, refl, inr (omega arith, ahead)) where
+    used_lands = rw is (inl refl, height, refl, inr (omega arith, ahead), refl) where
       height : length (below s.stacks.operands) ≡ length s.stacks.operands - 1 + 0
       height = omega
           (arith, length-take-le (length s.stacks.operands - 1) s.stacks.operands (omega arith))

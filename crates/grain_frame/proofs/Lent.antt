@@ -237,7 +237,13 @@ module _ {H : Type 0} (law : Law H) (p : View) (engine : Engine) (f : Activation
     lent_used next stacks does es ahead = record {
       same = compose does (same second) tt;
       kept = keeps;
-      lands = (inl refl, rw (es, run) height, rw (es, run) refl, inr (rw run (omega arith), ahead));
+      lands = (
+        inl refl,
+        rw (es, run) height,
+        rw (es, run) refl,
+        inr (rw run (omega arith), ahead),
+        rw (es, run) refl,
+      );
       before = before;
     } where
       height : length (below s.stacks.operands) ≡ length s.stacks.operands - 1 + 0

@@ -18,3 +18,8 @@ mod Returning
 mod ToldRuns
 mod Lent
 mod Resuming
+mod Looping
+mod Counting
+mod Storing
+mod Leaving
+mod Advancing

@@ -180,6 +180,7 @@ later_lands engine f f' s t s' ts takes gives hs (Ok progress.Continues) le es l
   l.1 ∙ ap (λ (q : StacksView). length q.operands - takes + gives) es,
   l.2,
   at l.3,
+  l.4 ∙ ap (λ (q : StacksView). q.cursors) es,
 ) where
   at : Progresses engine t f s' f' → Progresses engine s f s' f'
   at (inl a) = inl (omega (arith, a.0, le), omega (arith, a.1, le))
@@ -188,6 +189,7 @@ later_lands engine f f' s t s' ts takes gives hs (Ok progress.Returned) le es l 
 later_lands engine f f' s t s' ts takes gives hs (Ok progress.Failed) le es l = (
   omega (arith, l.0, ap (λ (q : StacksView). length q.operands) es),
   l.1 ∙ ap (λ (q : StacksView). q.handlers) es,
+  l.2 ∙ ap (λ (q : StacksView). q.cursors) es,
 )
 later_lands engine f f' s t s' ts takes gives hs (Err e) le es l = tt
 
@@ -276,7 +278,7 @@ module _ {H : Type 0} (law : Law H) (p : View) (engine : Engine) (f : Activation
         this = (refl, refl);
         later = omega arith;
       }));
-      lands = rw (es, run) (omega arith, refl);
+      lands = rw (es, run) (omega arith, refl, refl);
       before = rw en before;
     } where
       second : SimulatesExactly (setup law p engine) (abstraction t k mid)

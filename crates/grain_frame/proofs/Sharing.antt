@@ -59,7 +59,7 @@ shares {H = H} law p engine f s n host h slot index next cell mid scope at numbe
         this = (refl, refl);
         later = omega arith;
       };
-      lands = (inl refl, omega arith, refl, inr (omega arith, ahead));
+      lands = (inl refl, omega arith, refl, inr (omega arith, ahead), refl);
       before = refl;
     }) where
       after_is : record mid { scope = scope } ≡ record s {

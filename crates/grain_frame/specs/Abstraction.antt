@@ -11,14 +11,17 @@ use Rattle.grain_program.specs.declared.code.instruction_set.Op.{Op}
 use Rattle.grain_program.specs.declared.code.instruction_set.Op.TheVariants as op
 use Rattle.grain_program.specs.Effects.{own_takes, takes_of, gives_of, leads_of}
 use Rattle.grain_program.specs.Layout.{most_code}
-use Rattle.grain_program.specs.Shapes.{TryHandler}
+use Rattle.grain_program.specs.Shapes.{TryHandler, Shape, shape}
 use Rattle.grain_program.specs.TypedAt.{IsTypedAt, IsCovered, Verified}
 use Rattle.grain_program.specs.Decoding.{op_at}
 use Rattle.grain_program.specs.Typing.{In}
 use Rattle.grain_program.specs.View.{View}
 use Rattle.grain_host.specs.Law.{Law}
 use Rattle.grain_global.specs.declared.engines.Engine.{Engine}
+use Rattle.grain_stack.specs.Cursors.{items_left}
+use Rattle.grain_stack.specs.declared.cursors.Cursor.{Cursor}
 use Rattle.grain_stack.specs.declared.handlers.Handler.{Handler}
+use Rattle.grain_stack.specs.declared.totals.Total.{Total}
 use Rattle.grain_means.specs.Worlds.{Act, Go, End, Then, Answer, Came, Failed, Frame, InFrame, InHost, Place, Receiver, Setup, World}
 use Rattle.grain_means.specs.Worlds as worlds
 use Rattle.grain_means.specs.Rules.{cells_lent, leave_by_fault, native_over, offered, instr, or_return, with_token}
@@ -52,12 +55,28 @@ abstraction s n host = record {
   passed = n.passed;
 }
 
+-- a cursor of the meaning, and a frame's cursors
+abbrev pub cursor_in : Cursor → worlds.Cursor
+cursor_in c = record { left = items_left c.left; counter = c.counter }
+
+abbrev pub cursors_in : List Cursor → List worlds.Cursor
+cursors_in cs = map cursor_in cs
+
+-- a total of the meaning, and a frame's totals
+abbrev pub total_in : Total → worlds.Total
+total_in t = record { arrays = t.arrays; maps = t.maps; text = t.text }
+
+abbrev pub totals_in : List Total → List worlds.Total
+totals_in ts = map total_in ts
+
 -- a handler of the meaning, and a frame's handlers
 abbrev pub handler_in : Handler → worlds.Handler
 handler_in h = record {
   target = h.target;
   variable = h.variable;
   operands = h.operands;
+  cursors = h.cursors;
+  totals = h.totals;
   scope = h.scope;
   caught = option_map problem_of h.caught;
 }
@@ -67,7 +86,12 @@ handlers_in hs = map handler_in hs
 
 -- a frame's handlers as a typing has them
 abbrev pub try_in : Handler → TryHandler
-try_in h = record { target = h.target; variable = h.variable; height = h.operands }
+try_in h = record {
+  target = h.target;
+  variable = h.variable;
+  height = h.operands;
+  cursors = h.cursors;
+}
 
 abbrev pub tries_in : List Handler → List TryHandler
 tries_in hs = map try_in hs
@@ -83,6 +107,8 @@ frame_in a s place =
     record {
       address = a.address;
       operands = s.stacks.operands;
+      cursors = cursors_in s.stacks.cursors;
+      totals = totals_in s.stacks.totals;
       handlers = handlers_in s.stacks.handlers;
       base = a.base;
       floor = a.floor;
@@ -126,18 +152,20 @@ Progresses engine s f s' f' =
     ((s.count ≤ s'.count) × (f.address < f'.address))
 
 -- What was done takes and then gives these numbers of operands. If the frame goes on, it does at one
--- of these addresses, with these handlers, and an operation was taken or the address lies further
--- on. After a fault the frame has its handlers, and no operand is gone but those that are taken.
+-- of these addresses, with the cursors that it had and these handlers, and an operation was taken or
+-- the address lies further on. After a fault the frame has its cursors and its handlers, and no
+-- operand is gone but those that are taken.
 abbrev pub ContinuesAt : {H : Type 0} → Engine → Run H → Activation → Run H → Activation →
     List ℕ → (takes gives : ℕ) → List Handler → Result Progress OutOfMemory → Type 0
 ContinuesAt engine s f s' f' targets takes gives handlers (Ok progress.Continues) =
     In f'.address targets
     × (length s'.stacks.operands ≡ length s.stacks.operands - takes + gives)
     × (s'.stacks.handlers ≡ handlers) × Progresses engine s f s' f'
+    × (s'.stacks.cursors ≡ s.stacks.cursors)
 ContinuesAt engine s f s' f' targets takes gives handlers (Ok progress.Returned) = Unit {0}
 ContinuesAt engine s f s' f' targets takes gives handlers (Ok progress.Failed) =
     (length s.stacks.operands - takes ≤ length s'.stacks.operands)
-    × (s'.stacks.handlers ≡ s.stacks.handlers)
+    × (s'.stacks.handlers ≡ s.stacks.handlers) × (s'.stacks.cursors ≡ s.stacks.cursors)
 ContinuesAt engine s f s' f' targets takes gives handlers (Err e) = Unit {0}
 
 -- The frame is the same but for its address, its floor and the slot that it blames. The frames around
@@ -206,7 +234,7 @@ abbrev pub Performs : {H : Type 0} → Setup H → Moment H → Op → ℕ →
     Result Progress OutOfMemory → Moment H → Type 0
 Performs m a o next result b =
     Implements m a (λ m place w. instr m o next (frame_in a.frame a.run place) w)
-    (leads_of o next) (takes_of m.program o) (gives_of o) a.run.stacks.handlers result b
+    (leads_of m.program o next) (takes_of m.program o) (gives_of o) a.run.stacks.handlers result b
 
 -- The same of code that may read or write the frame's `this`: the two are one where the place that the
 -- frame has for it holds the code's.
@@ -225,30 +253,37 @@ abbrev pub PerformsBound : {H : Type 0} → Setup H → Moment H → Op → ℕ 
     Result Progress OutOfMemory → Moment H → Type 0
 PerformsBound m a o next result b =
     ImplementsBound m a (λ m place w. instr m o next (frame_in a.frame a.run place) w)
-    (leads_of o next) (takes_of m.program o) (gives_of o) a.run.stacks.handlers result b
+    (leads_of m.program o next) (takes_of m.program o) (gives_of o) a.run.stacks.handlers result b
 
--- a frame runs: it stands where the typing of its chunk knows it and its handlers, and has noted no
--- fault
+-- how many operands and cursors a frame has, and its handlers, as a typing has them
+abbrev pub shape_in : {H : Type 0} → Run H → Shape
+shape_in s =
+    shape (length s.stacks.operands) (length s.stacks.cursors) (tries_in s.stacks.handlers)
+
+-- a frame runs: it stands where the typing of its chunk knows it with its cursors and its handlers,
+-- and has noted no fault
 pub record Runs {H : Type 0} (program : View) (f : Activation) (s : Run H) : Type 0 where
   pub inside : f.base ≤ length s.scope
   pub typed : IsTypedAt program f.chunk f.address (length s.stacks.operands)
-      (tries_in s.stacks.handlers)
+      (length s.stacks.cursors) (tries_in s.stacks.handlers)
   pub above : Above f.base s.stacks.handlers
   pub room : f.chunk.max_stack ≡ s.stacks.room
   pub unnoted : s.stacks.noted ≡ false
   pub entered : 0 < length s.stacks.outer
 
--- the frame's handlers can catch: they stand in a typing with operands that are there
+-- the frame's handlers can catch: they stand in a typing with operands and cursors that are there
 abbrev pub CanCatch : {H : Type 0} → View → Activation → Run H → Type 0
-CanCatch p f s = (depth : ℕ) × (depth ≤ length s.stacks.operands)
-    × IsCovered p f.chunk depth (tries_in s.stacks.handlers) × Above f.base s.stacks.handlers
+CanCatch p f s = (depth : ℕ) × (cursors : ℕ) × (depth ≤ length s.stacks.operands)
+    × (cursors ≤ length s.stacks.cursors)
+    × IsCovered p f.chunk depth cursors (tries_in s.stacks.handlers) × Above f.base s.stacks.handlers
 
 -- if the frame goes on, it stands where the typing knows it, and after a fault its handlers can
 -- catch
 abbrev pub StaysTyped : {H : Type 0} → View → Engine → Run H → Activation → Run H → Activation →
     Result Progress OutOfMemory → Type 0
 StaysTyped p engine s f s' f' (Ok progress.Continues) =
-    IsTypedAt p f'.chunk f'.address (length s'.stacks.operands) (tries_in s'.stacks.handlers)
+    IsTypedAt p f'.chunk f'.address (length s'.stacks.operands) (length s'.stacks.cursors)
+    (tries_in s'.stacks.handlers)
     × Progresses engine s f s' f' × (f.address < most_code) × Above f'.base s'.stacks.handlers
 StaysTyped p engine s f s' f' (Ok progress.Returned) = Unit {0}
 StaysTyped p engine s f s' f' (Ok progress.Failed) = CanCatch p f' s'
@@ -320,7 +355,7 @@ pub record StandsAt {H : Type 0} (program : View) (f : Activation) (s : Run H) (
   pub read : op_at program.code f.address ≡ Some (o, width)
   pub next_is : next ≡ f.address + width
   pub seen : Verified program f.chunk f.address (length s.stacks.operands)
-      (tries_in s.stacks.handlers) o width
+      (length s.stacks.cursors) (tries_in s.stacks.handlers) o width
 
 -- the instruction is none of those that may call a function
 abbrev pub IsNoCall : Op → Type 0

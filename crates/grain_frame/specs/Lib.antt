@@ -2,6 +2,7 @@
 -- it does. `lemmas` has what the crate above cites.
 pub mod Receivers
 pub mod Abstraction
+pub mod Looping
 pub mod Handling
 pub mod Operated
 pub mod Natives

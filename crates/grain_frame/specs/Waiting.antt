@@ -208,7 +208,7 @@ LandsOrWaits m a b targets takes gives handlers (Ok (performed.Waits w)) =
     LeadsTo m.program b.frame b.run w.rest takes gives targets × Lends w.rest w.lent
     × IsKept b.run w.lent × (b.run.stacks.operands ≡ a.run.stacks.operands)
     × (b.run.stacks.handlers ≡ handlers) × (b.run.stacks.handlers ≡ a.run.stacks.handlers)
-    × (b.frame ≡ a.frame)
+    × (b.frame ≡ a.frame) × (b.run.stacks.cursors ≡ a.run.stacks.cursors)
 LandsOrWaits m a b targets takes gives handlers (Err e) = Unit {0}
 
 -- The code did what a rule says from one moment to another, as in `ImplementsBound`, or the instruction
@@ -230,7 +230,7 @@ abbrev pub PerformsOrWaits : {H : Type 0} → Setup H → Moment H → Op → �
     Result Performed OutOfMemory → Moment H → Type 0
 PerformsOrWaits m a o next result b =
     ImplementsOrWaits m a (λ m place w. instr m o next (frame_in a.frame a.run place) w)
-    (leads_of o next) (takes_of m.program o) (gives_of o) a.run.stacks.handlers result b
+    (leads_of m.program o next) (takes_of m.program o) (gives_of o) a.run.stacks.handlers result b
 
 -- what a native was lent that stands nowhere in the run, if it was lent something
 abbrev pub lent_of : Option Held → Loan

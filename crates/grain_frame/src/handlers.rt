@@ -19,7 +19,7 @@ use std::sync::ledger::Ledger;
 
 impl<H: Host> Run<H> {
     // `push_handler` and `push_handler_var`: a handler more, which leads to the target, with the
-    // operands and the entries of the scope that there are.
+    // operands, cursors, totals and entries of the scope that there are.
     pub(crate) fn push_handler<L: Ledger>(
         &mut self,
         steps: &mut Steps<L>,
@@ -40,6 +40,8 @@ impl<H: Host> Run<H> {
             target,
             variable,
             operands: self.stacks.height(),
+            cursors: self.stacks.cursors(),
+            totals: self.stacks.totals(),
             scope: self.scope.len(),
             caught: None,
         };

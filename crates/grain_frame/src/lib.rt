@@ -8,6 +8,7 @@ mod charges;
 mod contexts;
 mod handlers;
 mod locals;
+mod loops;
 mod native_assignments;
 mod native_calls;
 mod native_ends;

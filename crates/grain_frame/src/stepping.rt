@@ -72,6 +72,7 @@ impl<H: Host> Run<H> {
             Op::SkipIfNotUnit(target) => {
                 self.skip_if_not_unit(context, host, steps, frame, target, next)
             }
+            Op::Switch(index) => self.switch_on(context, host, steps, frame, index, next),
             Op::Call(_, _) => unreachable!(),
             Op::CallOp(_, _, _) => unreachable!(),
             Op::MakeClosure(name) => self.make_closure(context, steps, frame, name, next),
@@ -89,6 +90,14 @@ impl<H: Host> Run<H> {
             Op::PushHandlerVar(target, name) => {
                 let variable = Some(u32::from(name));
                 self.push_handler(steps, frame, target, variable, next)
+            }
+            Op::IterInit => self.iter_init(context, steps, frame, next),
+            Op::IterDrop => Ok(self.iter_drop(steps, frame, next)),
+            Op::IterNext(target) => {
+                self.iter_next(context, host, steps, frame, target, None, next)
+            }
+            Op::IterNextIndexed(target, slot) => {
+                self.iter_next(context, host, steps, frame, target, Some(slot), next)
             }
             Op::PopHandler => Ok(self.pop_handler(steps, frame, next)),
             Op::Throw => self.throw(context, steps, frame, next),

@@ -1,7 +1,7 @@
 -- What an assembler has after lines that have said this.
 use Rattle.std.proofs.Common.{◌≡◌, ℕ, ◌+◌, List, [], ◌∷◌, ◌++◌, length, refl, sym, ap, ◌∙◌, arith, append_assoc, append-nil, length-append}
 use Rattle.grain_words.specs.Labels.{Addresses, with_label}
-use Rattle.grain_listing.specs.Statements.{Piece, Byte, Goto, Statement, code_line, label_line, section, caps, source, limits, flags, host, consts, names, tokens, assigns, chains, is_chain_open, scope, pieces, width, address, positions, open_block, main_chunk, functions}
+use Rattle.grain_listing.specs.Statements.{Piece, Byte, Goto, Statement, code_line, label_line, section, caps, source, limits, flags, host, consts, names, tokens, assigns, chains, switches, aims, open_entry, scope, pieces, width, address, positions, open_block, main_chunk, functions}
 use Rattle.grain_listing.specs.LineMeanings.{bytes}
 use Rattle.grain_listing.specs.views.Assembling.{AssemblerView}
 use Rattle.grain_listing.specs.declared.assembler.Fixup.{Fixup}
@@ -52,7 +52,9 @@ assembled line said =
       tokens = tokens said;
       assigns = assigns said;
       chains = chains said;
-      in_chain = is_chain_open said;
+      switches = switches said;
+      aims = aims said;
+      follows = open_entry said;
       block = open_block said;
       main = main_chunk said;
       functions = functions said;

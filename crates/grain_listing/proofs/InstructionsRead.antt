@@ -20,7 +20,7 @@ use Rattle.grain_literals.specs.declared.reasons.Reason.{Reason}
 use Rattle.grain_literals.specs.declared.reasons.Reason.TheVariants.{BadOperand, OutOfPlace}
 use Rattle.grain_listing.specs.Instructions.{word_of, kind_of, kinds_of, encoding_of, op_named}
 use Rattle.grain_listing.specs.InstructionLines.{numbers_of, instruction_line, instruction_text}
-use Rattle.grain_listing.specs.Table.{is_block, line_of, own_line, chain_line, instruction_line_of, later_line, or_else}
+use Rattle.grain_listing.specs.Table.{is_block, line_of, own_line, pool_line, instruction_line_of, later_line, or_else}
 use Rattle.grain_listing.specs.Statements.{Piece, Byte, Goto, Statement, blank, header, main_line, fn_line, end_line, code_line, section, open_block, pieces}
 use Rattle.grain_listing.specs.LineMeanings.{bytes, operand, operands, known, begun_by, in_section, says, at_line, statements}
 use Rattle.grain_listing.specs.declared.table.Line.{Line}
@@ -61,7 +61,7 @@ found None x e = absurd cc
 found (Some i) x e = (i, (refl, cc))
 
 its_line : (o : Op) → (i : Op) × IsFound o i
-unfolding line_of chain_line
+unfolding line_of pool_line
 its_line o =
     let it = found (op_named (word_of o)) (encoding_of o) (in_table o) in (
       it.0,

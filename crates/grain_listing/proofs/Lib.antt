@@ -7,7 +7,10 @@ pub mod Assembled
 pub mod FoundLabels
 pub mod Opens
 pub mod LastChain
+pub mod LastSwitch
+pub mod OneMore
 pub mod Simulates
+pub mod AimsLinked
 pub mod Linked
 pub mod LinesRead
 pub mod AllowedLimits

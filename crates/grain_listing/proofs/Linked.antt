@@ -1,5 +1,6 @@
 -- The code of an assembler with its labels is the code of the pieces.
-use Rattle.std.proofs.Common.{◌≡◌, ℕ, ◌+◌, ◌<◌, ◌≤◌, suc, List, [], ◌∷◌, ◌++◌, length, Option, Some, None, Result, Ok, Err, refl, sym, ap, ◌∙◌, subst, arith, append_assoc, length-append, slice_set}
+use Rattle.std.proofs.Common.{◌≡◌, ℕ, ◌+◌, ◌<◌, ◌≤◌, suc, List, [], ◌∷◌, ◌++◌, length, map, Option, Some, None, Result, Ok, Err, refl, sym, ap, ◌∙◌, subst, arith, append_assoc, length-append, slice_set}
+use Rattle.std.proofs.Math.Path.{fun_ext}
 use Rattle.std.proofs.Math.Seq.{set-append_seam}
 use Rattle.std.specs.Int.{w32, to_le_bytes}
 use Rattle.grain_fault.specs.declared.places.Position.{Position}
@@ -9,9 +10,10 @@ use Rattle.grain_program.specs.declared.code.parts.PositionEntry.{PositionEntry}
 use Rattle.grain_words.specs.Labels.{Addresses, address_of}
 use Rattle.grain_literals.specs.Steps.{and_then, present}
 use Rattle.grain_literals.specs.declared.reasons.Reason.TheVariants.{UnknownLabel}
-use Rattle.grain_listing.specs.Statements.{Piece, Byte, Goto, Statement, code_line, section, tokens, assigns, pieces, width, address, labels, label_address, positions, code_of, bad_line}
+use Rattle.grain_listing.specs.Statements.{Piece, Byte, Goto, Statement, code_line, section, tokens, assigns, switches, aims, pieces, width, address, labels, label_address, positions, code_of, bad_line}
 use Rattle.grain_listing.specs.Reading
-use Rattle.grain_listing.specs.Reading.{ListingView, assign_ops_of, complete, set_up_of}
+use Rattle.grain_listing.specs.Reading.{ListingView, assign_ops_of, look_up, complete, set_up_of}
+use Rattle.grain_listing.specs.SwitchTargets.{all_known, linked_switch}
 use Rattle.grain_listing.specs.views.Linking.{write_on, write_at, fill, ending}
 use Rattle.grain_listing.specs.views.Ordered.{IsOrdered}
 use Rattle.grain_listing.specs.declared.reasons.BadLine.{BadLine}
@@ -33,6 +35,14 @@ wrote (b ∷ bs) (z ∷ zs) rest front at i same is =
     ap (write_on at (i + 1) bs) (here ∙ sym (append_assoc front (b ∷ []) (zs ++ rest))) ∙
     wrote bs zs rest (front ++ (b ∷ [])) at (i + 1) (omega arith) longer ∙
     append_assoc front (b ∷ []) (bs ++ rest)
+
+-- what the lines say, with this way to look a label up
+abbrev linked_up : List Statement → List AssignOp → (List ℕ → Option ℕ) → List ℕ → ListingView
+linked_up said assign_ops look code =
+    let v : ListingView = Reading.set_up said assign_ops code in
+    record v {
+      parts = record v.parts { switches = map (linked_switch look) (switches said) };
+    }
 
 abbrev Code : Type 0
 Code = Result (List ℕ) BadLine
@@ -98,13 +108,28 @@ filled said =
     linked (label_map said) (labels said) (λ t. found t said) (pieces said) [] ∙
     alone (code_of (labels said) (pieces said))
 
+-- both ways of looking labels up find the same
+same_look : (said : List Statement) → (λ t. address_of t (label_map said)) ≡ look_up said
+same_look said = fun_ext (λ t. found t said)
+
+abbrev Labels : Type 0
+Labels = List ℕ → Option ℕ
+
+-- what the assembler has, with this way to look a label up, and this code
+abbrev with_look : ℕ → List Statement → List AssignOp → Labels → Code → Result ListingView BadLine
+with_look n said assign_ops look r =
+    complete n (section said) (and_then (all_known look (aims said)) (λ _. and_then r
+    (λ code. Ok (linked_up said assign_ops look code))))
+
 -- after the nth line, which is the last one
 pub ended : (m n : ℕ) (said : List Statement) → ending n (assembled m said) ≡ set_up_of n said
 ended m n said =
     ap (λ (r : Code). and_then (assign_ops_of (tokens said) (assigns said))
     (λ (assign_ops : List AssignOp).
-    complete n (section said) (and_then r (λ code. Ok (Reading.set_up said assign_ops code)))))
-    (filled said)
+    with_look n said assign_ops (λ t. address_of t (label_map said)) r)) (filled said)
+    ∙ ap (λ (look : Labels). and_then (assign_ops_of (tokens said) (assigns said))
+    (λ (assign_ops : List AssignOp).
+    with_look n said assign_ops look (code_of (labels said) (pieces said)))) (same_look said)
 
 -- positions come by ascending address
 longer : (low end more : ℕ) (es : List PositionEntry) → end ≤ more → Ascends low end es →

@@ -18,9 +18,10 @@ use Rattle.grain_listing.specs.Flags.{flag_of}
 use Rattle.grain_listing.specs.HostLines.{fail_of, stop_of}
 use Rattle.grain_listing.specs.Headers.{stack_of, assign_of, header_of, is_crowded}
 use Rattle.grain_listing.specs.ChainWords.{chain_of, step_of}
+use Rattle.grain_listing.specs.SwitchWords.{aim_of, case_of, range_of}
 use Rattle.grain_listing.specs.Instructions.{kinds_of}
 use Rattle.grain_listing.specs.Table.{line_of, stands, is_block}
-use Rattle.grain_listing.specs.Statements.{Piece, Byte, Goto, Statement, blank, header, caps_line, source_line, limit_line, flag_line, fail_line, stop_line, const_line, name_line, op_line, assign_line, chain_line, step_line, scope_line, main_line, fn_line, end_line, code_line, label_line, section, caps, source, limits, consts, names, tokens, assigns, chains, last_steps, is_chain_open, functions, labels, label_address, pieces, width, address, open_block}
+use Rattle.grain_listing.specs.Statements.{Piece, Byte, Goto, Statement, blank, header, caps_line, source_line, limit_line, flag_line, fail_line, stop_line, const_line, name_line, op_line, assign_line, chain_line, step_line, switch_line, case_line, range_line, scope_line, main_line, fn_line, end_line, code_line, label_line, section, caps, source, limits, consts, names, tokens, assigns, chains, last_steps, switches, last_cases, last_ranges, is_chain_open, is_switch_open, functions, labels, label_address, pieces, width, address, open_block}
 use Rattle.grain_listing.specs.LineMeanings.{bytes, operand, code_operand, operands, limit_set, statement, before_colon, labelled, known, header_end, header_number, begun_by, in_section, says}
 use Rattle.grain_listing.specs.declared.table.Line.{Line}
 use Rattle.grain_listing.specs.declared.table.Line.TheVariants as lines
@@ -188,6 +189,23 @@ line_narrow lines.Step n cs before =
     either_narrow (is_chain_open before) (cond room read (Err TooMany)) (Err OutOfPlace)
     (either_narrow room read (Err TooMany)
     (step_narrow (step_of cs) (λ s. step_line s) (λ x e. tt)) tt) tt
+line_narrow lines.Switch n cs before =
+    either_narrow (nat_lt (length (switches before)) 65536)
+    (and_then (aim_of n cs) (λ a. Ok (switch_line a))) (Err TooMany)
+    (step_narrow (aim_of n cs) (λ a. switch_line a) (λ x e. tt)) tt
+line_narrow lines.Case n cs before =
+    let read : Result Statement Reason = and_then (case_of n cs) (λ c. Ok (case_line c)) in
+    let room : Bool = nat_lt (length (last_cases (switches before))) 65536 in
+    either_narrow (is_switch_open before) (cond room read (Err TooMany)) (Err OutOfPlace)
+    (either_narrow room read (Err TooMany)
+    (step_narrow (case_of n cs) (λ c. case_line c) (λ x e. tt)) tt) tt
+line_narrow (lines.Range inclusive) n cs before =
+    let read : Result Statement Reason =
+    and_then (range_of inclusive n cs) (λ r. Ok (range_line r)) in
+    let room : Bool = nat_lt (length (last_ranges (switches before))) 65536 in
+    either_narrow (is_switch_open before) (cond room read (Err TooMany)) (Err OutOfPlace)
+    (either_narrow room read (Err TooMany)
+    (step_narrow (range_of inclusive n cs) (λ r. range_line r) (λ x e. tt)) tt) tt
 line_narrow lines.Entry n cs before = step_narrow (entry_of cs) (λ x. scope_line x) (λ x e. tt)
 line_narrow lines.Flag n cs before = step_narrow (flag_of cs) (λ x. flag_line x) (λ x e. tt)
 line_narrow lines.Fail n cs before = step_narrow (fail_of cs) (λ x. fail_line x) (λ x e. tt)

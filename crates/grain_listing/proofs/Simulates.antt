@@ -18,16 +18,18 @@ use Rattle.grain_listing.specs.Flags.{flag_of}
 use Rattle.grain_listing.specs.HostLines.{fail_of, stop_of}
 use Rattle.grain_listing.specs.Headers.{stack_of, assign_of, header_of, is_crowded}
 use Rattle.grain_listing.specs.ChainWords.{chain_of, step_of}
+use Rattle.grain_listing.specs.SwitchWords.{aim_of, switch_to, case_of, range_of}
 use Rattle.grain_program.specs.declared.code.instruction_set.Op.{Op}
 use Rattle.grain_program.specs.InstructionSet.{tag_of, fields_of}
 use Rattle.grain_listing.specs.Instructions.{kinds_of}
-use Rattle.grain_listing.specs.Table.{line_of, stands, is_block}
-use Rattle.grain_listing.specs.Statements.{Piece, Byte, Goto, Statement, blank, header, caps_line, source_line, limit_line, flag_line, fail_line, stop_line, const_line, name_line, op_line, assign_line, chain_line, step_line, scope_line, main_line, fn_line, end_line, code_line, label_line, section, caps, source, limits, flags, host, consts, names, tokens, assigns, chains, with_step, last_steps, is_chain_open, functions, labels, label_address, address, open_block}
+use Rattle.grain_listing.specs.Table.{line_of, stands, is_block, opened_by}
+use Rattle.grain_listing.specs.Statements.{Piece, Byte, Goto, Statement, blank, header, caps_line, source_line, limit_line, flag_line, fail_line, stop_line, const_line, name_line, op_line, assign_line, chain_line, step_line, switch_line, case_line, range_line, scope_line, main_line, fn_line, end_line, code_line, label_line, section, caps, source, limits, flags, host, consts, names, tokens, assigns, chains, with_step, last_steps, switches, with_case, with_range, last_cases, last_ranges, open_entry, is_chain_open, is_switch_open, functions, labels, label_address, address, open_block}
 use Rattle.grain_listing.specs.LineMeanings.{bytes, operand, code_operand, operands, in_list, limit_set, statement, before_colon, label_said, labelled, known, header_end, header_number, header_said, begun_by, in_section, says}
 use Rattle.grain_listing.specs.views.Assembling
-use Rattle.grain_listing.specs.views.Assembling.{AssemblerView, with_code, with_fixup, with_position, put_operand_word, put_operand, put_operands, closed, opened, put_line, put_label, known_line, opens_chain, put_known, with_header, is_start, after_header, take_line}
+use Rattle.grain_listing.specs.views.Assembling.{AssemblerView, with_code, with_fixup, with_position, put_operand_word, put_operand, put_operands, closed, opened, put_line, put_label, known_line, with_aim, put_known, with_header, is_start, after_header, take_line}
 use Rattle.grain_listing.specs.declared.blocks.OpenBlock.TheVariants as blocks
 use Rattle.grain_listing.specs.declared.headers.FunctionHeader.{FunctionHeader}
+use Rattle.grain_listing.specs.declared.table.Follows.{Follows}
 use Rattle.grain_listing.specs.declared.table.Line.{Line}
 use Rattle.grain_listing.specs.declared.table.Line.TheVariants as lines
 use Rattle.grain_listing.specs.declared.table.OperandKind.{OperandKind}
@@ -56,7 +58,7 @@ next n said s = Ok (assembled n (s ∷ said))
 
 -- the same, but that what may follow is as it was
 abbrev as_before : ℕ → List Statement → Statement → AssemblerView
-as_before n said s = record (assembled n (s ∷ said)) { in_chain = is_chain_open said }
+as_before n said s = record (assembled n (s ∷ said)) { follows = open_entry said }
 
 abbrev pub kept : ℕ → List Statement → Statement → Outcome
 kept n said s = Ok (as_before n said s)
@@ -310,6 +312,37 @@ line_said lines.Step n cs said =
       chains =
           with_step s (chains said);
     }) (λ s. step_line s) (λ s. refl)))
+line_said lines.Switch n cs said =
+    if_so n said (nat_lt (length (switches said)) 65536) TooMany
+    (and_then (aim_of n cs)
+    (λ a. Ok (with_aim a (switches said ++ switch_to a ∷ []) (assembled n said))))
+    (and_then (aim_of n cs) (λ a. Ok (switch_line a)))
+    (step n said (aim_of n cs)
+    (λ a. with_aim a (switches said ++ switch_to a ∷ []) (assembled n said))
+    (λ a. switch_line a) (λ a. refl))
+line_said lines.Case n cs said =
+    let room : Bool = nat_lt (length (last_cases (switches said))) 65536 in
+    let put : Outcome = and_then (case_of n cs)
+    (λ c. Ok (with_aim c.aim (with_case c (switches said)) (assembled n said))) in
+    let read : Result Statement Reason = and_then (case_of n cs) (λ c. Ok (case_line c)) in
+    if_so n said (is_switch_open said) OutOfPlace (cond room put (Err TooMany))
+    (cond room read (Err TooMany))
+    (if_so n said room TooMany put read
+    (step n said (case_of n cs)
+    (λ c. with_aim c.aim (with_case c (switches said)) (assembled n said))
+    (λ c. case_line c) (λ c. refl)))
+line_said (lines.Range inclusive) n cs said =
+    let room : Bool = nat_lt (length (last_ranges (switches said))) 65536 in
+    let put : Outcome = and_then (range_of inclusive n cs)
+    (λ r. Ok (with_aim r.aim (with_range r (switches said)) (assembled n said))) in
+    let read : Result Statement Reason =
+    and_then (range_of inclusive n cs) (λ r. Ok (range_line r)) in
+    if_so n said (is_switch_open said) OutOfPlace (cond room put (Err TooMany))
+    (cond room read (Err TooMany))
+    (if_so n said room TooMany put read
+    (step n said (range_of inclusive n cs)
+    (λ r. with_aim r.aim (with_range r (switches said)) (assembled n said))
+    (λ r. range_line r) (λ r. refl)))
 line_said lines.Entry n cs said =
     step n said (entry_of cs) (λ e. record (assembled n said) {
       scope =
@@ -400,21 +433,21 @@ header_put : (n : ℕ) (said : List Statement) (cs : List ℕ) →
     with_header (header_said cs) (assembled n said) ≡ and_then (header_said cs) (next n said)
 header_put n said cs = number_line_put n said (after_name (codes "grain") cs)
 
--- what a line says tells whether steps may follow
-opened_put : (n : ℕ) (said : List Statement) (b : Bool) (r : Result Statement Reason) →
+-- what a line says tells what may follow
+opened_put : (n : ℕ) (said : List Statement) (b : Follows) (r : Result Statement Reason) →
     Opens said b r →
-    and_then (and_then r (kept n said)) (λ u. given (record u { in_chain = b })) ≡
+    and_then (and_then r (kept n said)) (λ u. given (record u { follows = b })) ≡
     and_then r (next n said)
 opened_put n said b (Ok s) h =
-    ap (λ (q : Bool). given (record (assembled n (s ∷ said)) { in_chain = q })) (sym h)
+    ap (λ (q : Follows). given (record (assembled n (s ∷ said)) { follows = q })) (sym h)
 opened_put n said b (Err e) h = refl
 
 put_known_said : (n : ℕ) (said : List Statement) (l : Option Line) (w : List ℕ) (cs : List ℕ) →
     put_known l w cs (assembled n said) ≡ and_then (known l n w cs said) (next n said)
 put_known_said n said l w cs =
-    ap (λ (r : Outcome). and_then r (λ u. given (record u { in_chain = opens_chain l })))
+    ap (λ (r : Outcome). and_then r (λ u. given (record u { follows = opened_by l })))
     (known_put n said l w cs) ∙
-    opened_put n said (opens_chain l) (known l n w cs said) (known_opens l n w cs said)
+    opened_put n said (opened_by l) (known l n w cs said) (known_opens l n w cs said)
 
 begun_put : (n : ℕ) (said : List Statement) (o : Option (List ℕ × List ℕ)) →
     after_header o (assembled n said) ≡ and_then (begun_by o n said) (next n said)

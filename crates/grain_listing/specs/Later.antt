@@ -8,8 +8,7 @@ is_among (t ∷ ts) w = bytes_eq w t || is_among ts w
 -- lines and blocks
 abbrev pub later_lines : List (List ℕ)
 later_lines =
-    codes "switch" ∷ codes "case" ∷
-    codes "range" ∷ codes "range=" ∷ codes "site" ∷ codes "input" ∷
+    codes "site" ∷ codes "input" ∷
     codes "fragment" ∷ codes "module" ∷ codes "item" ∷ codes "var" ∷ codes "answer" ∷
     codes "forbid" ∷ codes "chunk" ∷ []
 
@@ -33,7 +32,6 @@ later_others =
     codes "make_array" ∷ codes "make_map" ∷ codes "check_array_size" ∷ codes "check_map_size" ∷
     codes "interpolate_start" ∷
     codes "interpolate_append" ∷ codes "interpolate_end" ∷
-    codes "iter_init" ∷ codes "iter_drop" ∷ codes "iter_next" ∷ codes "iter_next_indexed" ∷
     codes "export_local" ∷ codes "export_named" ∷
     codes "import" ∷ codes "custom_syntax" ∷ codes "eval_ast" ∷ codes "eval_ast_keep" ∷ []
 

@@ -9,8 +9,10 @@ pub mod Flags
 pub mod HostLines
 pub mod Headers
 pub mod ChainWords
+pub mod SwitchWords
 pub mod InstructionLines
 pub mod Statements
+pub mod SwitchTargets
 pub mod LineMeanings
 pub mod Reading
 pub mod ListingViews

@@ -16,10 +16,11 @@ use Rattle.grain_listing.specs.Flags.{flag_of}
 use Rattle.grain_listing.specs.HostLines.{fail_of, stop_of}
 use Rattle.grain_listing.specs.Headers.{stack_of, assign_of, header_of, is_crowded}
 use Rattle.grain_listing.specs.ChainWords.{chain_of, step_of}
+use Rattle.grain_listing.specs.SwitchWords.{aim_of, case_of, range_of}
 use Rattle.grain_program.specs.InstructionSet.{tag_of, fields_of}
 use Rattle.grain_listing.specs.Instructions.{kinds_of}
 use Rattle.grain_listing.specs.Table.{line_of, stands, is_block}
-use Rattle.grain_listing.specs.Statements.{Piece, Byte, Goto, Statement, blank, header, caps_line, source_line, limit_line, flag_line, fail_line, stop_line, const_line, name_line, op_line, assign_line, chain_line, step_line, scope_line, main_line, fn_line, end_line, code_line, label_line, section, caps, source, limits, consts, names, tokens, assigns, chains, last_steps, is_chain_open, functions, labels, label_address, open_block, bad_line}
+use Rattle.grain_listing.specs.Statements.{Piece, Byte, Goto, Statement, blank, header, caps_line, source_line, limit_line, flag_line, fail_line, stop_line, const_line, name_line, op_line, assign_line, chain_line, step_line, switch_line, case_line, range_line, scope_line, main_line, fn_line, end_line, code_line, label_line, section, caps, source, limits, consts, names, tokens, assigns, chains, last_steps, switches, last_cases, last_ranges, is_chain_open, is_switch_open, functions, labels, label_address, open_block, bad_line}
 use Rattle.grain_listing.specs.declared.table.Line.{Line}
 use Rattle.grain_listing.specs.declared.table.Line.TheVariants as lines
 use Rattle.grain_listing.specs.declared.table.OperandKind.{OperandKind}
@@ -96,6 +97,17 @@ statement lines.Chain n cs before =
 statement lines.Step n cs before =
     if is_chain_open before then
     in_pool (last_steps (chains before)) (and_then (step_of cs) (λ s. Ok (step_line s)))
+    else Err OutOfPlace
+statement lines.Switch n cs before =
+    in_pool (switches before) (and_then (aim_of n cs) (λ a. Ok (switch_line a)))
+statement lines.Case n cs before =
+    if is_switch_open before then
+    in_pool (last_cases (switches before)) (and_then (case_of n cs) (λ c. Ok (case_line c)))
+    else Err OutOfPlace
+statement (lines.Range inclusive) n cs before =
+    if is_switch_open before then
+    in_pool (last_ranges (switches before))
+    (and_then (range_of inclusive n cs) (λ r. Ok (range_line r)))
     else Err OutOfPlace
 statement lines.Entry n cs before = and_then (entry_of cs) (λ e. Ok (scope_line e))
 statement lines.Flag n cs before = and_then (flag_of cs) (λ name. Ok (flag_line name))

@@ -1,7 +1,7 @@
 -- What a listing says. It is lines; each says something after those before it; and what they say
 -- makes the parts of a program, the limits of its run, two flags and a host for it, and the scope
 -- in which it begins.
-use Rattle.std.specs.Prelude.{ℕ, ◌+◌, Bool, List, [], ◌∷◌, length, take, count_by, Option, Some, None, Result, Ok, Err, ◌==◌, nat_lt, if◌then◌else◌, slice_get, chars, codes}
+use Rattle.std.specs.Prelude.{ℕ, ◌+◌, Bool, List, [], ◌∷◌, length, map, take, count_by, Option, Some, None, Result, Ok, Err, ◌==◌, nat_lt, if◌then◌else◌, slice_get, chars, codes}
 use Rattle.std.specs.Str.{is_utf8}
 use Rattle.std.specs.Str.Lossy.{utf8_valid_len}
 use Rattle.grain_value.specs.declared.values.Limits.{Limits}
@@ -17,7 +17,8 @@ use Rattle.grain_literals.specs.declared.reasons.Reason.TheVariants.{TooLong, No
 use Rattle.grain_listing.specs.Settings.{number_of}
 use Rattle.grain_listing.specs.Flags.{is_on}
 use Rattle.grain_listing.specs.Statements
-use Rattle.grain_listing.specs.Statements.{Statement, section, caps, limits, flags, host, assigns, pieces, labels, main_chunk, functions, positions, code_of}
+use Rattle.grain_listing.specs.Statements.{Statement, section, caps, limits, flags, host, assigns, pieces, labels, label_address, aims, main_chunk, functions, positions, code_of}
+use Rattle.grain_listing.specs.SwitchTargets.{all_known, linked_switch}
 use Rattle.grain_listing.specs.LineMeanings.{statements}
 use Rattle.grain_listing.specs.declared.headers.AssignLine.{AssignLine}
 use Rattle.grain_listing.specs.declared.table.Section.{Section}
@@ -77,6 +78,10 @@ assign_ops_of tokens (a ∷ others) =
 abbrev pub caps_of : Option ℕ → ℕ
 caps_of caps = or_number 31 caps
 
+-- the address of a label
+abbrev pub look_up : List Statement → List ℕ → Option ℕ
+look_up said t = label_address t (labels said)
+
 -- what the lines say, with these op-assignments and this code
 abbrev pub set_up : List Statement → List AssignOp → List ℕ → ListingView
 set_up said assign_ops code =
@@ -91,6 +96,7 @@ set_up said assign_ops code =
         tokens = Statements.tokens said;
         assign_ops = assign_ops;
         chains = Statements.chains said;
+        switches = map (linked_switch (look_up said)) (Statements.switches said);
         positions = positions said;
         source = Statements.source said;
       };
@@ -117,7 +123,9 @@ abbrev pub set_up_of : ℕ → List Statement → Result ListingView BadLine
 set_up_of n said =
     and_then (assign_ops_of (Statements.tokens said) (assigns said)) (λ assign_ops.
     complete n (section said)
-    (and_then (code_of (labels said) (pieces said)) (λ code. Ok (set_up said assign_ops code))))
+    (and_then (all_known (look_up said) (aims said)) (λ _.
+    and_then (code_of (labels said) (pieces said))
+    (λ code. Ok (set_up said assign_ops code)))))
 
 -- what the lines say
 abbrev pub meaning : List (List ℕ) → Result ListingView BadLine

@@ -1,6 +1,6 @@
 -- What lines say, and what the lines up to some line say together. The lines up to there are a
 -- list with the last line first, so that what stands before a line is the rest of the list.
-use Rattle.std.specs.Prelude.{ℕ, ◌+◌, Bool, true, false, List, [], ◌∷◌, ◌++◌, Option, Some, None, Result, Ok, bytes_eq, if◌then◌else◌}
+use Rattle.std.specs.Prelude.{ℕ, ◌+◌, Bool, List, [], ◌∷◌, ◌++◌, Option, Some, None, Result, Ok, bytes_eq, if◌then◌else◌}
 use Rattle.std.specs.Int.{w32, to_le_bytes}
 use Rattle.grain_value.specs.Tree.{Tree}
 use Rattle.grain_value.specs.View.{tree}
@@ -19,6 +19,14 @@ use Rattle.grain_program.specs.declared.code.functions.Function.{Function}
 use Rattle.grain_literals.specs.Steps.{and_then, present}
 use Rattle.grain_literals.specs.declared.reasons.Reason.{Reason}
 use Rattle.grain_literals.specs.declared.reasons.Reason.TheVariants.{UnknownLabel}
+use Rattle.grain_listing.specs.SwitchWords.{switch_to}
+use Rattle.grain_listing.specs.Table.{takes_steps, takes_cases}
+use Rattle.grain_listing.specs.declared.switch_words.Aim.{Aim}
+use Rattle.grain_listing.specs.declared.switch_words.AimedCase.{AimedCase}
+use Rattle.grain_listing.specs.declared.switch_words.AimedRange.{AimedRange}
+use Rattle.grain_listing.specs.declared.switch_words.AimedSwitch.{AimedSwitch}
+use Rattle.grain_listing.specs.declared.table.Follows.{Follows}
+use Rattle.grain_listing.specs.declared.table.Follows.TheVariants as may
 use Rattle.grain_listing.specs.declared.blocks.OpenBlock.{OpenBlock}
 use Rattle.grain_listing.specs.declared.blocks.OpenBlock.TheVariants as blocks
 use Rattle.grain_listing.specs.declared.headers.AssignLine.{AssignLine}
@@ -55,6 +63,11 @@ pub data Statement : Type 0 where
   -- a chain without steps, and a step of the chain before it
   chain_line : Chain → Statement
   step_line : Step → Statement
+  -- a switch with the target of all values that no case or range is for, and a case and a range of the
+  -- switch before it
+  switch_line : Aim → Statement
+  case_line : AimedCase → Statement
+  range_line : AimedRange → Statement
   -- an entry of the starting scope
   scope_line : Entry → Statement
   -- the beginning of a block, of which `main` may have this many operands, and the end of one
@@ -128,13 +141,73 @@ last_steps [] = []
 last_steps (c ∷ []) = c.steps
 last_steps (c ∷ d ∷ cs) = last_steps (d ∷ cs)
 
--- steps may follow: after a chain and its steps, with empty lines between them
+-- something done to the last entry of a list
+abbrev pub at_last : {A : Type 0} → (A → A) → List A → List A
+at_last f [] = []
+at_last f (x ∷ []) = f x ∷ []
+at_last f (x ∷ y ∷ xs) = x ∷ at_last f (y ∷ xs)
+
+-- what the last entry of a list has
+abbrev pub of_last : {A B : Type 0} → (A → List B) → List A → List B
+of_last f [] = []
+of_last f (x ∷ []) = f x
+of_last f (x ∷ y ∷ xs) = of_last f (y ∷ xs)
+
+-- the case, or the range, at the end of the last switch
+abbrev pub one_case : AimedCase → AimedSwitch → AimedSwitch
+one_case c s = record s { cases = s.cases ++ c ∷ [] }
+
+abbrev pub one_range : AimedRange → AimedSwitch → AimedSwitch
+one_range r s = record s { ranges = s.ranges ++ r ∷ [] }
+
+abbrev pub with_case : AimedCase → List AimedSwitch → List AimedSwitch
+with_case c ss = at_last (one_case c) ss
+
+abbrev pub with_range : AimedRange → List AimedSwitch → List AimedSwitch
+with_range r ss = at_last (one_range r) ss
+
+-- the switches, whose targets may still be labels
+abbrev pub switches : List Statement → List AimedSwitch
+switches [] = []
+switches (switch_line a ∷ before) = switches before ++ switch_to a ∷ []
+switches (case_line c ∷ before) = with_case c (switches before)
+switches (range_line r ∷ before) = with_range r (switches before)
+switches (s ∷ before) = switches before
+
+-- the targets of the switches, of their cases and of their ranges, in the order of the lines
+abbrev pub aims : List Statement → List Aim
+aims [] = []
+aims (switch_line a ∷ before) = aims before ++ a ∷ []
+aims (case_line c ∷ before) = aims before ++ c.aim ∷ []
+aims (range_line r ∷ before) = aims before ++ r.aim ∷ []
+aims (s ∷ before) = aims before
+
+-- the cases and the ranges of the last switch
+abbrev pub last_cases : List AimedSwitch → List AimedCase
+last_cases ss = of_last (λ s. s.cases) ss
+
+abbrev pub last_ranges : List AimedSwitch → List AimedRange
+last_ranges ss = of_last (λ s. s.ranges) ss
+
+-- What may follow besides other lines: steps after a chain and its steps, and cases and ranges after a
+-- switch, its cases and its ranges, with empty lines between them.
+abbrev pub open_entry : List Statement → Follows
+open_entry [] = may.Nothing
+open_entry (blank ∷ before) = open_entry before
+open_entry (chain_line c ∷ before) = may.Steps
+open_entry (step_line s ∷ before) = may.Steps
+open_entry (switch_line a ∷ before) = may.Cases
+open_entry (case_line c ∷ before) = may.Cases
+open_entry (range_line r ∷ before) = may.Cases
+open_entry (s ∷ before) = may.Nothing
+
+-- steps may follow
 abbrev pub is_chain_open : List Statement → Bool
-is_chain_open [] = false
-is_chain_open (blank ∷ before) = is_chain_open before
-is_chain_open (chain_line c ∷ before) = true
-is_chain_open (step_line s ∷ before) = true
-is_chain_open (s ∷ before) = false
+is_chain_open before = takes_steps (open_entry before)
+
+-- cases and ranges may follow
+abbrev pub is_switch_open : List Statement → Bool
+is_switch_open before = takes_cases (open_entry before)
 
 abbrev pub scope : List Statement → List Entry
 scope [] = []

@@ -2,6 +2,8 @@
 use Rattle.std.specs.Prelude.{ℕ, Bool, true, false, List, Option, Some, None, if◌then◌else◌, codes, bytes_eq}
 use Rattle.grain_listing.specs.Instructions.{op_named}
 use Rattle.grain_listing.specs.Later.{is_later}
+use Rattle.grain_listing.specs.declared.table.Follows.{Follows}
+use Rattle.grain_listing.specs.declared.table.Follows.TheVariants as may
 use Rattle.grain_listing.specs.declared.table.Section.{Section}
 use Rattle.grain_listing.specs.declared.table.Section.TheVariants as sections
 use Rattle.grain_program.specs.declared.code.instruction_set.Op.{Op}
@@ -20,6 +22,9 @@ own_line w =
     else (if bytes_eq w (codes "op") then Some lines.Operator
     else (if bytes_eq w (codes "assign") then Some lines.Assign
     else (if bytes_eq w (codes "step") then Some lines.Step
+    else (if bytes_eq w (codes "case") then Some lines.Case
+    else (if bytes_eq w (codes "range") then Some (lines.Range false)
+    else (if bytes_eq w (codes "range=") then Some (lines.Range true)
     else (if bytes_eq w (codes "scope") then Some lines.Entry
     else (if bytes_eq w (codes "flag") then Some lines.Flag
     else (if bytes_eq w (codes "fail") then Some lines.Fail
@@ -28,7 +33,7 @@ own_line w =
     else (if bytes_eq w (codes "fn") then Some lines.Function
     else (if bytes_eq w (codes "byte") then Some lines.Byte
     else (if bytes_eq w (codes "end") then Some lines.End
-    else None))))))))))))))))
+    else None)))))))))))))))))))
 
 -- an instruction's line
 abbrev pub instruction_line_of : Option Op → Option Line
@@ -43,15 +48,18 @@ abbrev pub or_else : Option Line → Option Line → Option Line
 or_else None o = o
 or_else (Some l) o = Some l
 
--- `chain` begins an entry of a pool, and in a block it is an instruction
-unfoldable pub chain_line : Bool → List ℕ → Option Line
-chain_line in_block w =
-    if in_block then None else (if bytes_eq w (codes "chain") then Some lines.Chain else None)
+-- `chain` and `switch` begin an entry of a pool, and in a block they are instructions
+unfoldable pub pool_line : Bool → List ℕ → Option Line
+pool_line in_block w =
+    if in_block then None
+    else (if bytes_eq w (codes "chain") then Some lines.Chain
+    else (if bytes_eq w (codes "switch") then Some lines.Switch
+    else None))
 
 -- the line that begins with the word, in a block or outside of one
 unfoldable pub line_of : Bool → List ℕ → Option Line
 line_of in_block w =
-    or_else (own_line w) (or_else (chain_line in_block w)
+    or_else (own_line w) (or_else (pool_line in_block w)
     (or_else (instruction_line_of (op_named w)) (later_line w)))
 
 abbrev pub is_pools : Section → Bool
@@ -86,6 +94,9 @@ stands lines.Operator s = is_pools s
 stands lines.Assign s = is_pools s
 stands lines.Chain s = is_pools s
 stands lines.Step s = is_pools s
+stands lines.Switch s = is_pools s
+stands lines.Case s = is_pools s
+stands (lines.Range inclusive) s = is_pools s
 stands lines.Entry s = is_pools s
 stands lines.Flag s = is_pools s
 stands lines.Fail s = is_pools s
@@ -96,3 +107,24 @@ stands lines.Byte s = is_block s
 stands lines.End s = is_block s
 stands (lines.Instruction o) s = is_block s
 stands lines.Later s = true
+
+-- steps, or cases and ranges, may follow
+abbrev pub takes_steps : Follows → Bool
+takes_steps may.Nothing = false
+takes_steps may.Steps = true
+takes_steps may.Cases = false
+
+abbrev pub takes_cases : Follows → Bool
+takes_cases may.Nothing = false
+takes_cases may.Steps = false
+takes_cases may.Cases = true
+
+-- what may follow the line: steps after a chain and a step, cases and ranges after a switch, a case and
+-- a range
+abbrev pub opened_by : Option Line → Follows
+opened_by (Some lines.Chain) = may.Steps
+opened_by (Some lines.Step) = may.Steps
+opened_by (Some lines.Switch) = may.Cases
+opened_by (Some lines.Case) = may.Cases
+opened_by (Some (lines.Range inclusive)) = may.Cases
+opened_by l = may.Nothing

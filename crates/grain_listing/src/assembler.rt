@@ -6,11 +6,12 @@ ghost use Rattle.grain_listing.specs.views.Limits.{AreAllowed};
 use crate::blocks::OpenBlock;
 use crate::headers::AssignLine;
 use crate::limits::LimitLine;
-use crate::table::Section;
+use crate::switch_words::{Aim, AimedSwitch};
+use crate::table::{Follows, Section};
 use grain_fault::Position;
 use grain_host::TableHost;
 use grain_program::{Chains, Chunk, Functions, Names, PositionEntry, Positions, Tokens};
-use grain_value::{Array, OutOfMemory, Scope, Text};
+use grain_value::{Array, List, OutOfMemory, Scope, Text};
 use grain_words::Labels;
 use std::alloc::Global;
 
@@ -39,8 +40,11 @@ pub struct Assembler {
     pub tokens: Tokens,
     pub assigns: Vec<AssignLine>,
     pub chains: Chains,
-    /// Whether steps of the last chain may follow.
-    pub in_chain: bool,
+    pub switches: List<AimedSwitch>,
+    /// The aims of the switches, of their cases and of their ranges, in the order of the lines.
+    pub aims: List<Aim>,
+    /// Whether steps of the last chain, or cases and ranges of the last switch, may follow.
+    pub follows: Follows,
     pub block: Option<OpenBlock>,
     pub main: Chunk,
     pub functions: Functions,
@@ -73,7 +77,9 @@ impl Assembler {
             tokens: Tokens::new(alloc),
             assigns: Vec::new(alloc),
             chains: Chains::new(alloc),
-            in_chain: false,
+            switches: List::new(alloc),
+            aims: List::new(alloc),
+            follows: Follows::Nothing,
             block: None,
             main: Chunk {
                 entry: 0,

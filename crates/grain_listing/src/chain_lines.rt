@@ -9,6 +9,7 @@ ghost use Rattle.grain_listing.specs.views.Assembling.{put_line};
 use crate::assembler::Assembler;
 use crate::chain_words::{chain_of, step_of};
 use crate::pool_lines::POOL_ROOM;
+use crate::table::takes_steps;
 use grain_literals::Reason;
 use grain_program::{Chains, Step};
 use grain_value::OutOfMemory;
@@ -66,7 +67,7 @@ impl Assembler {
         ensures { IfOk result (λ r. result_view r (assembler_view self.new) ≡
             put_line lines.Step rest.now (assembler_view self.old)) }
     {
-        if !self.in_chain {
+        if !takes_steps(self.follows) {
             return Ok(Err(Reason::OutOfPlace));
         }
         if last_count(&self.chains) >= POOL_ROOM {

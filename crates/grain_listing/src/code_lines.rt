@@ -25,6 +25,7 @@ fn kind_of(field: Field) -> OperandKind
         | Field::Name(_)
         | Field::Assignment(_)
         | Field::Chain(_)
+        | Field::Switch(_)
         | Field::Token(_)
         | Field::Slot(_)
         | Field::Number(_) => OperandKind::Index,

@@ -6,9 +6,8 @@ ghost use Rattle.grain_listing.specs.Later.{is_among, is_later_line, is_later_va
 use grain_words::is_word;
 
 /// Lines and blocks.
-const LINES: [&str; 13] = [
-    "switch", "case", "range", "range=", "site", "input", "fragment", "module", "item", "var",
-    "answer", "forbid", "chunk",
+const LINES: [&str; 9] = [
+    "site", "input", "fragment", "module", "item", "var", "answer", "forbid", "chunk",
 ];
 
 /// Instructions that read and write variables.
@@ -32,7 +31,7 @@ const CALLS: [&str; 6] = [
 ];
 
 /// The other instructions.
-const OTHERS: [&str; 17] = [
+const OTHERS: [&str; 13] = [
     "make_array",
     "make_map",
     "check_array_size",
@@ -40,10 +39,6 @@ const OTHERS: [&str; 17] = [
     "interpolate_start",
     "interpolate_append",
     "interpolate_end",
-    "iter_init",
-    "iter_drop",
-    "iter_next",
-    "iter_next_indexed",
     "export_local",
     "export_named",
     "import",

@@ -20,6 +20,9 @@ mod pool_lines;
 mod reading;
 mod reasons;
 mod settings;
+mod switch_lines;
+mod switch_linking;
+mod switch_words;
 mod table;
 
 pub use grain_literals::Reason;

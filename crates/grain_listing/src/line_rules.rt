@@ -4,10 +4,10 @@ ghost use Rattle.std.specs.Prelude.{◌≡◌, IfOk, option_map};
 ghost use Rattle.grain_words.specs.Words.{next_word};
 ghost use Rattle.grain_listing.specs.LineMeanings.{before_colon, header_said};
 ghost use Rattle.grain_listing.specs.views.AssemblerView.{assembler_view, result_view};
-ghost use Rattle.grain_listing.specs.views.Assembling.{HasRoom, put_line, label_line, known_line, opens_chain, put_known, with_header, after_header, take_line, is_start};
+ghost use Rattle.grain_listing.specs.views.Assembling.{HasRoom, put_line, label_line, known_line, put_known, with_header, after_header, take_line, is_start};
 
 use crate::assembler::Assembler;
-use crate::table::{Line, Section, line_of, stands};
+use crate::table::{Follows, Line, Section, line_of, opened_by, stands};
 use grain_literals::{Reason, after_name};
 use grain_value::OutOfMemory;
 use grain_words::{begins_letter, is_over, next_word, word_text};
@@ -30,16 +30,6 @@ fn is_start(section: Section) -> bool
     match section {
         Section::Start => true,
         Section::Pools | Section::Block | Section::After => false,
-    }
-}
-
-/// Whether steps may follow the line.
-fn opens_chain(line: Option<Line>) -> bool
-    ensures { result ≡ opens_chain line }
-{
-    match line {
-        Some(Line::Chain) | Some(Line::Step) => true,
-        _ => false,
     }
 }
 
@@ -67,6 +57,9 @@ impl Assembler {
             Line::Assign => self.put_assign(rest),
             Line::Chain => self.put_chain(alloc, rest),
             Line::Step => self.put_step(rest),
+            Line::Switch => self.put_switch(alloc, rest),
+            Line::Case => self.put_case(alloc, rest),
+            Line::Range(inclusive) => self.put_range(alloc, inclusive, rest),
             Line::Entry => self.put_entry(alloc, rest),
             Line::Flag => self.put_flag(rest),
             Line::Fail => self.put_fail(rest),
@@ -114,7 +107,7 @@ impl Assembler {
         };
         if is_over(rest) {
             self.section = Section::Pools;
-            self.in_chain = false;
+            self.follows = Follows::Nothing;
             Ok(())
         } else {
             Err(Reason::MissingHeader)
@@ -144,7 +137,7 @@ impl Assembler {
         }
     }
 
-    /// A line after the header; it says whether steps may follow.
+    /// A line after the header; it says what may follow.
     fn put_known(
         &mut self,
         alloc: Global,
@@ -159,7 +152,7 @@ impl Assembler {
         match self.known_line(alloc, line, word, rest)? {
             Err(reason) => Ok(Err(reason)),
             Ok(()) => {
-                self.in_chain = opens_chain(line);
+                self.follows = opened_by(line);
                 Ok(Ok(()))
             }
         }

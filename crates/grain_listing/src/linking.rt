@@ -5,7 +5,7 @@ ghost use Rattle.grain_listing.specs.Reading.{assign_op_of, assign_ops_of, token
 ghost use Rattle.grain_listing.specs.views.Limits.{AreAllowed, limits_view};
 ghost use Rattle.grain_listing.specs.ListingViews.{outcome, IsReady};
 ghost use Rattle.grain_listing.specs.views.AssemblerView.{assembler_view};
-ghost use Rattle.grain_listing.specs.views.Linking.{ending, finish, filled, fill, write_at, left};
+ghost use Rattle.grain_listing.specs.views.Linking.{ending, finish, linked, filled, fill, write_at, left};
 ghost use Rattle.grain_listing.specs.views.Ordered.{IsOrdered};
 
 use crate::assembler::{Assembler, Fixup};
@@ -15,10 +15,11 @@ use crate::limits::LimitLine;
 use crate::listings::Listing;
 use crate::reasons::BadLine;
 use crate::settings::number_of;
+use crate::switch_linking::{check_aims, linked_switches};
 use crate::table::Section;
 use bitflags::Flags;
 use grain_literals::Reason;
-use grain_program::{AssignOp, AssignOps, Caps, Parts, Tokens};
+use grain_program::{AssignOp, AssignOps, Caps, Parts, Switches, Tokens};
 use grain_value::{Blob, Limits, OutOfMemory, Token};
 use grain_words::Labels;
 use std::alloc::Global;
@@ -127,10 +128,14 @@ fn caps_of(bits: Option<u8>) -> Caps
     }
 }
 
-/// What the assembler says, whose last block is over.
-fn set_up(assembler: Assembler, assign_ops: AssignOps) -> Result<Listing, BadLine>
+/// What the assembler says, whose last block is over, with these op-assignments and switches.
+fn set_up(
+    assembler: Assembler,
+    assign_ops: AssignOps,
+    switches: Switches,
+) -> Result<Listing, BadLine>
     requires { IsOrdered (assembler_view assembler) }
-    ensures setup { outcome result ≡ filled (assembler_view assembler) assign_ops }
+    ensures setup { outcome result ≡ filled (assembler_view assembler) assign_ops switches }
     ensures ready { IfOk result IsReady }
 {
     let Assembler {
@@ -147,7 +152,9 @@ fn set_up(assembler: Assembler, assign_ops: AssignOps) -> Result<Listing, BadLin
         tokens,
         assigns: _,
         chains,
-        in_chain: _,
+        switches: _,
+        aims: _,
+        follows: _,
         block: _,
         main,
         functions,
@@ -167,6 +174,7 @@ fn set_up(assembler: Assembler, assign_ops: AssignOps) -> Result<Listing, BadLin
         tokens,
         assign_ops,
         chains,
+        switches,
         positions,
         source,
     };
@@ -180,6 +188,23 @@ fn set_up(assembler: Assembler, assign_ops: AssignOps) -> Result<Listing, BadLin
     })
 }
 
+/// What the assembler says, whose last block is over.
+fn link(
+    alloc: Global,
+    assembler: Assembler,
+    assign_ops: AssignOps,
+) -> Result<Result<Listing, BadLine>, OutOfMemory>
+    requires { IsOrdered (assembler_view assembler) }
+    ensures setup { IfOk result (λ r. outcome r ≡ linked (assembler_view assembler) assign_ops) }
+    ensures ready { IfOk result (λ r. IfOk r IsReady) }
+{
+    if let Err(bad) = check_aims(&assembler.labels, assembler.aims.as_slice()) {
+        return Ok(Err(bad));
+    }
+    let switches = linked_switches(alloc, &assembler.labels, assembler.switches.as_slice())?;
+    Ok(set_up(assembler, assign_ops, switches))
+}
+
 fn last_line(n: usize) -> usize
     ensures { result ≡ last_line n }
 {
@@ -187,26 +212,31 @@ fn last_line(n: usize) -> usize
 }
 
 /// What the assembler says after the nth line, which is its last one.
-fn finish(n: usize, assembler: Assembler, assign_ops: AssignOps) -> Result<Listing, BadLine>
+fn finish(
+    alloc: Global,
+    n: usize,
+    assembler: Assembler,
+    assign_ops: AssignOps,
+) -> Result<Result<Listing, BadLine>, OutOfMemory>
     requires { IsOrdered (assembler_view assembler) }
-    ensures setup { outcome result ≡
-        finish n assembler.section (assembler_view assembler) assign_ops }
-    ensures ready { IfOk result IsReady }
+    ensures setup { IfOk result (λ r. outcome r ≡
+        finish n assembler.section (assembler_view assembler) assign_ops) }
+    ensures ready { IfOk result (λ r. IfOk r IsReady) }
 {
     match assembler.section {
-        Section::Start => Err(BadLine {
+        Section::Start => Ok(Err(BadLine {
             line: last_line(n),
             reason: Reason::MissingHeader,
-        }),
-        Section::Pools => Err(BadLine {
+        })),
+        Section::Pools => Ok(Err(BadLine {
             line: n,
             reason: Reason::MissingMain,
-        }),
-        Section::Block => Err(BadLine {
+        })),
+        Section::Block => Ok(Err(BadLine {
             line: n,
             reason: Reason::UnfinishedChunk,
-        }),
-        Section::After => set_up(assembler, assign_ops),
+        })),
+        Section::After => link(alloc, assembler, assign_ops),
     }
 }
 
@@ -222,6 +252,6 @@ pub fn ending(
 {
     match assign_ops_of(alloc, &assembler.tokens, assembler.assigns.as_slice())? {
         Err(bad) => Ok(Err(bad)),
-        Ok(assign_ops) => Ok(finish(n, assembler, assign_ops)),
+        Ok(assign_ops) => finish(alloc, n, assembler, assign_ops),
     }
 }

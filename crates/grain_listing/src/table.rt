@@ -3,7 +3,7 @@
 ghost use Rattle.std.specs.Prelude.{◌≡◌, option_map, Some};
 ghost use Rattle.grain_program.specs.declared.code.instruction_set.Op.{Op};
 ghost use Rattle.grain_listing.specs.Instructions.{word_of, encoding_of, op_named};
-ghost use Rattle.grain_listing.specs.Table.{own_line, chain_line, line_of, is_pools, is_block, is_after, stands};
+ghost use Rattle.grain_listing.specs.Table.{own_line, pool_line, line_of, is_pools, is_block, is_after, stands, takes_steps, takes_cases, opened_by};
 
 use crate::later::is_later;
 use grain_program::Op;
@@ -20,6 +20,17 @@ pub enum Section {
     Block,
     /// After a block.
     After,
+}
+
+/// What may follow, besides other lines.
+#[derive(Clone, Copy, Debug, PartialEq, Eq)]
+pub enum Follows {
+    /// Nothing.
+    Nothing,
+    /// Steps of a chain.
+    Steps,
+    /// Cases and ranges of a switch.
+    Cases,
 }
 
 /// An operand of an instruction.
@@ -46,6 +57,10 @@ pub enum Line {
     Assign,
     Chain,
     Step,
+    Switch,
+    Case,
+    /// A range, with its last integer or without it.
+    Range(bool),
     Entry,
     Flag,
     Fail,
@@ -98,6 +113,12 @@ fn own_line(word: &[char]) -> Option<Line>
         Some(Line::Assign)
     } else if is_word(word, "step") {
         Some(Line::Step)
+    } else if is_word(word, "case") {
+        Some(Line::Case)
+    } else if is_word(word, "range") {
+        Some(Line::Range(false))
+    } else if is_word(word, "range=") {
+        Some(Line::Range(true))
     } else if is_word(word, "scope") {
         Some(Line::Entry)
     } else if is_word(word, "flag") {
@@ -119,13 +140,17 @@ fn own_line(word: &[char]) -> Option<Line>
     }
 }
 
-/// A chain of the pool; in a block the word is an instruction's.
-#[tactic(auto, unfolding(crate::specs::Table::chain_line))]
-fn chain_line(in_block: bool, word: &[char]) -> Option<Line>
-    ensures { result ≡ chain_line in_block word.now }
+/// A chain or a switch of its pool; in a block the word is an instruction's.
+#[tactic(auto, unfolding(crate::specs::Table::pool_line))]
+fn pool_line(in_block: bool, word: &[char]) -> Option<Line>
+    ensures { result ≡ pool_line in_block word.now }
 {
-    if !in_block && is_word(word, "chain") {
+    if in_block {
+        None
+    } else if is_word(word, "chain") {
         Some(Line::Chain)
+    } else if is_word(word, "switch") {
+        Some(Line::Switch)
     } else {
         None
     }
@@ -139,7 +164,7 @@ pub fn line_of(in_block: bool, word: &[char]) -> Option<Line>
     if let Some(line) = own_line(word) {
         return Some(line);
     }
-    if let Some(line) = chain_line(in_block, word) {
+    if let Some(line) = pool_line(in_block, word) {
         return Some(line);
     }
     if let Some(op) = op_named(word) {
@@ -195,6 +220,9 @@ pub fn stands(line: Line, section: Section) -> bool
         | Line::Assign
         | Line::Chain
         | Line::Step
+        | Line::Switch
+        | Line::Case
+        | Line::Range(_)
         | Line::Entry
         | Line::Flag
         | Line::Fail
@@ -203,6 +231,37 @@ pub fn stands(line: Line, section: Section) -> bool
         Line::Function => is_after(section),
         Line::Byte | Line::End | Line::Instruction(_) => is_block(section),
         Line::Later => true,
+    }
+}
+
+/// Whether steps may follow.
+pub fn takes_steps(follows: Follows) -> bool
+    ensures { result ≡ takes_steps follows }
+{
+    match follows {
+        Follows::Steps => true,
+        Follows::Nothing | Follows::Cases => false,
+    }
+}
+
+/// Whether cases and ranges may follow.
+pub fn takes_cases(follows: Follows) -> bool
+    ensures { result ≡ takes_cases follows }
+{
+    match follows {
+        Follows::Cases => true,
+        Follows::Nothing | Follows::Steps => false,
+    }
+}
+
+/// What may follow the line.
+pub fn opened_by(line: Option<Line>) -> Follows
+    ensures { result ≡ opened_by line }
+{
+    match line {
+        Some(Line::Chain) | Some(Line::Step) => Follows::Steps,
+        Some(Line::Switch) | Some(Line::Case) | Some(Line::Range(_)) => Follows::Cases,
+        _ => Follows::Nothing,
     }
 }
 

@@ -1,9 +1,9 @@
 -- What is read from what is left of a line: an operand, and what is then left. So operands are read
 -- from left to right, and the first wrong one decides.
-use Rattle.std.specs.Prelude.{ℕ, ◌^◌, ◌-◌, List, Option, Some, None, Result, Ok, Err, bytes_eq, if◌then◌else◌}
+use Rattle.std.specs.Prelude.{ℕ, ℤ, ◌^◌, ◌-◌, List, Option, Some, None, Result, Ok, Err, bytes_eq, if◌then◌else◌}
 use Rattle.grain_fault.specs.declared.places.Position.{Position}
 use Rattle.grain_words.specs.Words.{next_word, is_over}
-use Rattle.grain_words.specs.Numerals.{number}
+use Rattle.grain_words.specs.Numerals.{number, integer}
 use Rattle.grain_words.specs.PositionWords.{position_word}
 use Rattle.grain_literals.specs.Steps.{and_then, present}
 use Rattle.grain_literals.specs.declared.reasons.Reason.{Reason}
@@ -34,6 +34,12 @@ number_operand most cs =
 -- a number of 32 bits
 abbrev pub index : List ℕ → Result (ℕ × List ℕ) Reason
 index cs = number_operand (2 ^ 32 - 1) cs
+
+-- an integer of 64 bits
+abbrev pub integer_operand : List ℕ → Result (ℤ × List ℕ) Reason
+integer_operand cs =
+    and_then (word_operand cs) (λ a. and_then (present BadOperand (integer a.0)) (λ n.
+    Ok (n, a.1)))
 
 -- a position
 abbrev pub position_operand : List ℕ → Result (Position × List ℕ) Reason

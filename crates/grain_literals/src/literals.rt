@@ -38,7 +38,10 @@ fn literal(alloc: Global, line: &[char]) -> Result<Valued<'_>, OutOfMemory>
 }
 
 /// A value that ends where a word ends.
-fn value_operand(alloc: Global, line: &[char]) -> Result<Valued<'_>, OutOfMemory>
+pub fn value_operand(
+    alloc: Global,
+    line: &[char],
+) -> Result<Result<(Dynamic, &[char]), Reason>, OutOfMemory>
     ensures { IfOk result (λ r. operand_view r ≡ value_operand line.now) }
 {
     match literal(alloc, trim_start(line))? {

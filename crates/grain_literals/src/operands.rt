@@ -1,12 +1,12 @@
 //! Operands: each is read from what is left of a line, and says what is then left.
 
 ghost use Rattle.std.specs.Prelude.{◌≡◌, option_map};
-ghost use Rattle.grain_literals.specs.Operands.{word_operand, alone, after_name, number_operand, index, position_operand, position_after, byte_of};
+ghost use Rattle.grain_literals.specs.Operands.{word_operand, alone, after_name, number_operand, index, integer_operand, position_operand, position_after, byte_of};
 ghost use Rattle.grain_literals.specs.Results.{operand_view, word_view};
 
 use crate::reasons::Reason;
 use grain_fault::Position;
-use grain_words::{is_over, is_word, next_word, number, position_word};
+use grain_words::{integer, is_over, is_word, next_word, number, position_word};
 
 /// A word without quotes.
 pub fn word_operand(line: &[char]) -> Result<(&[char], &[char]), Reason>
@@ -62,6 +62,17 @@ pub fn index(line: &[char]) -> Result<(u32, &[char]), Reason>
 {
     let (number, rest) = number_operand(u32::MAX as u64, line)?;
     Ok((number as u32, rest))
+}
+
+/// An integer of 64 bits.
+pub fn integer_operand(line: &[char]) -> Result<(i64, &[char]), Reason>
+    ensures { operand_view result ≡ integer_operand line.now }
+{
+    let (word, rest) = word_operand(line)?;
+    match integer(word) {
+        None => Err(Reason::BadOperand),
+        Some(integer) => Ok((integer, rest)),
+    }
 }
 
 /// The byte after `byte`, and its position if it has one.

@@ -74,7 +74,7 @@ module _ {S : Type 0} (m : Setup S) where
   abbrev Suits : Todo → Type 0
   Suits (InFrame f) = Fitting m.program f
   Suits (InCatch f h x) =
-      (h.caught ≡ None) × Covered m.program f.operands (try_of h ∷ tries f.handlers)
+      (h.caught ≡ None) × Covered m.program f.operands f.cursors (try_of h ∷ tries f.handlers)
   Suits (InHost c) = Unit {0}
 
   suits : (role : Role) (root turn : Act S) (r : ℕ) (k : Footing) (t : Todo) (w : World S) →

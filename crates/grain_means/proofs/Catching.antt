@@ -25,7 +25,7 @@ use Rattle.grain_means.proofs.Kept.{keeps_cut, keeps_push}
 use Rattle.grain_means.proofs.Unlent.{Unlent}
 use Rattle.grain_means.proofs.Lengths.{cut_short}
 use Rattle.grain_means.proofs.Roles.{Framed}
-use Rattle.grain_means.proofs.Standing.{Covered, as_many, fits_caught}
+use Rattle.grain_means.proofs.Standing.{Covered, as_many, as_many_cursors, fits_caught, length_outermost}
 
 -- a handler without a variable has none
 no_variable : {A : Type 0} {v : Option ℕ} {n : ℕ} → v ≡ None → v ≡ Some n → A
@@ -326,10 +326,14 @@ module _ {S : Type 0} (m : Setup S) (f : Frame) (h : Handler) (x : Problem) (w :
 
   -- where the handler's target has a typing, the handler catches rightly
   pub catches_rightly : h.caught ≡ None →
-      Covered m.program f.operands (try_of h ∷ tries f.handlers) → Catches m point
+      Covered m.program f.operands f.cursors (try_of h ∷ tries f.handlers) → Catches m point
   catches_rightly armed covered = by_outcome outcome where
     enough : h.operands ≤ length f.operands
-    enough = as_many m.program f.operands (try_of h) (tries f.handlers) covered
+    enough = as_many m.program f.operands f.cursors (try_of h) (tries f.handlers) covered
+
+    enough_cursors : h.cursors ≤ length f.cursors
+    enough_cursors =
+        as_many_cursors m.program f.operands f.cursors (try_of h) (tries f.handlers) covered
 
     passes : (y : Problem) (u : World S) → FailsWith y u → catchable y ≡ false
     passes y u (inl out) = ap catchable out.0
@@ -339,6 +343,7 @@ module _ {S : Type 0} (m : Setup S) (f : Frame) (h : Handler) (x : Problem) (w :
     by_outcome (inl l) = record {
       armed = armed;
       enough = enough;
+      enough_cursors = enough_cursors;
       leads = inl (
         l.fault,
         record l.world {
@@ -352,6 +357,7 @@ module _ {S : Type 0} (m : Setup S) (f : Frame) (h : Handler) (x : Problem) (w :
     by_outcome (inr b) = record {
       armed = armed;
       enough = enough;
+      enough_cursors = enough_cursors;
       leads = inr (
         block,
         b.world,
@@ -360,6 +366,9 @@ module _ {S : Type 0} (m : Setup S) (f : Frame) (h : Handler) (x : Problem) (w :
           target = refl;
           operands = refl;
           as_many = omega (arith, length-take h.operands f.operands, enough);
+          cursors = refl;
+          as_many_cursors = length_outermost h.cursors f.cursors enough_cursors;
+          totals = refl;
           handlers = refl;
           base = refl;
           floor = refl;

@@ -81,6 +81,8 @@ module _ {S : Type 0} (law : Law S) (engine : Engine) (program : View) (host : S
   frame operands = record {
     address = 0;
     operands = operands;
+    cursors = [];
+    totals = [];
     handlers = [];
     base = 0;
     floor = 1;

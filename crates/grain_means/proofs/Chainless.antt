@@ -46,6 +46,10 @@ module _ {S : Type 0} (m : Setup S) (k : ℕ) (f : Frame) (w : World S) where
   calls g args (inl a) = a
   calls g args (inr b) = b.1.1
 
+  overflows : (s : List ℕ) → Raises m (Arithmetic s) at → ⊥
+  overflows s (inl operates) = operates.2
+  overflows s (inr counts) = counts
+
   no_kind : (x : FaultKind) → Raises m x at → ⊥
   no_kind (FunctionNotFound s) row =
       asks_last (Plain (FunctionNotFound s) (position m f)) row.0 row.2
@@ -57,7 +61,7 @@ module _ {S : Type 0} (m : Setup S) (k : ℕ) (f : Frame) (w : World S) where
   no_kind (MismatchDataType r a) row = mistypes r a row
   no_kind (DataRace s) row = races row.0 row.2
   no_kind (AssignmentToConstant s) row = row
-  no_kind (Arithmetic s) row = row.2
+  no_kind (Arithmetic s) row = overflows s row
   no_kind (Runtime v) row = row.1
   no_kind TooManyOperations row = row.1
   no_kind TooManyVariables row = row

@@ -14,6 +14,7 @@ pub mod Entries
 pub mod Operators
 pub mod ThisSteps
 pub mod Transfers
+pub mod Loops
 pub mod Calls
 pub mod Catching
 pub mod Tasks
@@ -48,7 +49,7 @@ use Rattle.grain_means.proofs.Caught.{sole_names}
 use Rattle.grain_means.proofs.Footing.{by_test}
 use Rattle.grain_means.proofs.Naming.{arguments_name, rotated_names, under_names}
 use Rattle.grain_means.proofs.Plain.{operated_plain}
-use Rattle.grain_means.proofs.Containing.Parts.{HandlerNames, Operands, FrameNames, exit_names}
+use Rattle.grain_means.proofs.Containing.Parts.{HandlerNames, Operands, FrameNames, exit_names, no_rest}
 use Rattle.grain_means.proofs.Containing.Frames.{Grounds, At, Within, bases, lower, ends, raises, charged, reads_all}
 use Rattle.grain_means.proofs.Containing.Leaving.{Bases, Holds, Leaves, MayWrite, SeatedAt, seen_from}
 use Rattle.grain_means.proofs.Containing.Callbacks.{calls_back}
@@ -57,6 +58,7 @@ use Rattle.grain_means.proofs.Containing.Steps.{Stays, Here, pushing, going_on, 
 use Rattle.grain_means.proofs.Containing.Entries.{stores, declares, assigns, loads, loads_shared, shares}
 use Rattle.grain_means.proofs.Containing.Operators.{op_assigns, pushes_outcome}
 use Rattle.grain_means.proofs.Containing.Transfers.{jumping, tests_top, skips, unwinds}
+use Rattle.grain_means.proofs.Containing.Loops.{advances, begins_loop, leaves_loop, switches}
 use Rattle.grain_means.proofs.Containing.Chains.{chains}
 use Rattle.grain_means.proofs.Containing.ThisSteps.{assigns_this, loads_this, loads_this_shared, op_assigns_this, requires_this}
 use Rattle.grain_means.proofs.Containing.Calls.{calls_function, curries, calls_pointer}
@@ -68,7 +70,7 @@ module _ {S : Type 0} {m : Setup S} (on : Grounds m) where
 
   module _ (n : ℕ) (low : least ≤ n) (f : Frame) (names : FrameNames clean n f) where
     outer_names : AllByRecursion (HandlerNames clean n) (outer_handlers f.handlers)
-    outer_names = at f.handlers names.1 where
+    outer_names = at f.handlers names.1.handlers where
       at : (hs : List Handler) → AllByRecursion (HandlerNames clean n) hs →
           AllByRecursion (HandlerNames clean n) (outer_handlers hs)
       at [] h = tt
@@ -131,6 +133,12 @@ module _ {S : Type 0} {m : Setup S} (on : Grounds m) where
     does (op.JumpIfTrue target) next w at = tests_top on n low f names true target next w at
     does (op.SkipIfNotUnit target) next w at =
         skips on n low f names (is_unit (top f.operands).value) target next w at
+    does (op.Switch k) next w at = switches on n low f names k next w at
+    does op.IterInit next w at = begins_loop on n low f names next w at
+    does op.IterDrop next w at = leaves_loop on n low f names next f.operands w at names.0
+    does (op.IterNext target) next w at = advances on n low f names target None next w at
+    does (op.IterNextIndexed target slot) next w at =
+        advances on n low f names target (Some slot) next w at
     does (op.Call k count) next w at =
         calls_function on n low f names (function_found m.program k count) (name_of m.program k)
         count next w at
@@ -172,10 +180,12 @@ module _ {S : Type 0} {m : Setup S} (on : Grounds m) where
               target = target;
               variable = variable;
               operands = length f.operands;
+              cursors = length f.cursors;
+              totals = length f.totals;
               scope = length w.scope;
               caught = None;
             } ∷ f.handlers;
-          }) w at (names.0, (tt, names.1))
+          }) w at (names.0, record { handlers = (tt, names.1.handlers); cursors = names.1.cursors })
     does (op.PushHandlerVar t k) next w at =
         goes_to (record f {
           address = next;
@@ -183,13 +193,15 @@ module _ {S : Type 0} {m : Setup S} (on : Grounds m) where
             target = t;
             variable = Some k;
             operands = length f.operands;
+            cursors = length f.cursors;
+            totals = length f.totals;
             scope = length w.scope;
             caught = None;
           } ∷ f.handlers;
-        }) w at (names.0, (tt, names.1))
+        }) w at (names.0, record { handlers = (tt, names.1.handlers); cursors = names.1.cursors })
     does op.PopHandler next w at =
         goes_to (record f { address = next; handlers = outer_handlers f.handlers }) w at
-        (names.0, outer_names)
+        (names.0, record { handlers = outer_names; cursors = names.1.cursors })
     does (op.Chain k) next w at = chains on n low f names k next w at
     does op.Throw next w at =
         reading on n low f names (top f.operands) [] w at (last on n low f names)
@@ -294,7 +306,7 @@ module _ {S : Type 0} {m : Setup S} (on : Grounds m) where
         n,
         omega arith,
         since,
-        (n, omega arith, at, (tt, tt), on.free),
+        (n, omega arith, at, (tt, no_rest), on.free),
         λ b u k le there named. lower on n k
             (rules.closed m inside.trace b u) le
             (closes k (omega (arith, low, le)) inside.trace b u there named),

@@ -69,7 +69,7 @@ pub record CanCatch {S : Type 0} (m : Setup S) (root : Act S) (k : Footing) (f :
   pub cause : Raised m root k.level x (Why m x)
   pub blamed : Blamed m from world f.slot x
   pub covered : IsProgram m.program →
-      Covered m.program f.operands (try_of h ∷ tries f.handlers)
+      Covered m.program f.operands f.cursors (try_of h ∷ tries f.handlers)
 
 -- what is known where the run stands at this
 abbrev pub Seats : {S : Type 0} → Setup S → Role → Act S → Footing → Todo → World S → Type 0

@@ -99,7 +99,7 @@ module _ (clean : Bool) (n : ℕ) where
   abbrev pub ItemNames : Tree → Type 0
   ItemNames t = TreeNames t × (clean ≡ true → not (is_cell t) ≡ true)
 
-  first_item : (t : Tree) (ts : Trees) → TreeNames (array (more_trees t ts)) → ItemNames t
+  pub first_item : (t : Tree) (ts : Trees) → TreeNames (array (more_trees t ts)) → ItemNames t
   first_item t ts h =
       let rest : Bool = is_clean t && is_clean (array ts) in (
         (
@@ -110,7 +110,7 @@ module _ (clean : Bool) (n : ℕ) where
         λ s. first_true (not (is_cell t)) rest (h.1 s),
       )
 
-  other_items : (t : Tree) (ts : Trees) → TreeNames (array (more_trees t ts)) →
+  pub other_items : (t : Tree) (ts : Trees) → TreeNames (array (more_trees t ts)) →
       TreeNames (array ts)
   other_items t ts h = (
     omega (arith, h.0, le-max_right (cell_bound t) (items_bound ts)),

@@ -1,5 +1,6 @@
 pub mod Choices
 pub mod Determined
+mod CoreEnding
 pub mod Kept
 pub mod Unlent
 pub mod Ground
@@ -26,6 +27,7 @@ pub mod Walking
 pub mod Reading
 pub mod Examples
 pub mod ChainExamples
+pub mod LoopExamples
 pub mod Explaining
 pub mod Rows
 pub mod Touching

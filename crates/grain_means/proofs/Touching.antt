@@ -6,6 +6,7 @@ pub mod Passing
 pub mod Callbacks
 pub mod Frames
 pub mod Instructions
+pub mod Loops
 pub mod Calls
 pub mod Walks
 pub mod Chains
@@ -39,6 +40,7 @@ use Rattle.grain_means.proofs.Touching.Passing.{Given, Leaves, Sits}
 use Rattle.grain_means.proofs.Touching.Callbacks.{calls_back}
 use Rattle.grain_means.proofs.Touching.Frames.{At, Stays, charged, jumps, marks, onward, pushes, raises, reads, reads_all}
 use Rattle.grain_means.proofs.Touching.Instructions.{assigns, assigns_this, declares, loads, loads_shared, loads_this, loads_this_shared, op_assigns, op_assigns_this, pushes_outcome, requires_this, shares, skips, stores, tests_top, unwinds}
+use Rattle.grain_means.proofs.Touching.Loops.{advances, begins_loop, leaves_loop, switches}
 use Rattle.grain_means.proofs.Touching.Calls.{calls_function, calls_pointer, catches, curries}
 use Rattle.grain_means.proofs.Touching.Receivers.{calls_method}
 use Rattle.grain_means.proofs.Touching.Chains.{chains}
@@ -84,6 +86,12 @@ module _ {S : Type 0} (m : Setup S) (t : Option Place) (old : List Held) where
     does (op.JumpIfTrue target) next w at = tests_top m t old f is true target next w at
     does (op.SkipIfNotUnit target) next w at =
         skips m t old f is (is_unit (top f.operands).value) target next w at
+    does (op.Switch k) next w at = switches m t old f is k next w at
+    does op.IterInit next w at = begins_loop m t old f is next w at
+    does op.IterDrop next w at = leaves_loop m t old f is next f.operands w at
+    does (op.IterNext target) next w at = advances m t old f is target None next w at
+    does (op.IterNextIndexed target slot) next w at =
+        advances m t old f is target (Some slot) next w at
     does (op.Call k count) next w at =
         calls_function m t old f is (function_found m.program k count) (name_of m.program k) count next
         w at
@@ -115,6 +123,8 @@ module _ {S : Type 0} (m : Setup S) (t : Option Place) (old : List Held) where
             target = target;
             variable = None;
             operands = length f.operands;
+            cursors = length f.cursors;
+            totals = length f.totals;
             scope = length w.scope;
             caught = None;
           } ∷ f.handlers;
@@ -126,6 +136,8 @@ module _ {S : Type 0} (m : Setup S) (t : Option Place) (old : List Held) where
             target = target;
             variable = Some k;
             operands = length f.operands;
+            cursors = length f.cursors;
+            totals = length f.totals;
             scope = length w.scope;
             caught = None;
           } ∷ f.handlers;

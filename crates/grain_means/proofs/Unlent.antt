@@ -138,3 +138,21 @@ flat_stays a b v u e one = by_cell (cell_of v) refl where
   by_cell None is = (v, rw is refl)
   by_cell (Some n) is =
       let there = content_stays a b n u (rw is at e) one in (there.0, rw is there.1)
+
+-- what is lent later was lent before, or was not there
+lent_at : (a b : List Cell) (n : ℕ) → Unlent a b → content (slice_get b n) ≡ None →
+    content (slice_get a n) ≡ None
+lent_at [] b n one none = refl
+lent_at (x ∷ xs) [] n one none = absurd one
+lent_at (x ∷ xs) (y ∷ ys) zero one none = by_busy x.busy refl where
+  by_busy : (busy : Bool) → x.busy ≡ busy → content (Some x) ≡ None
+  by_busy true e = rw e refl
+  by_busy false e = let there : Some y.held.value ≡ None = rw (one.0 e) at none in absurd cc
+lent_at (x ∷ xs) (y ∷ ys) (suc n) one none = lent_at xs ys n one.1 none
+
+pub lent_before : (a b : List Cell) → Unlent a b → (v : Dynamic) → flat b v ≡ None →
+    flat a v ≡ None
+lent_before a b one v none = by_cell (cell_of v) refl where
+  by_cell : (c : Option ℕ) → cell_of v ≡ c → flat a v ≡ None
+  by_cell None e = let there : Some v ≡ None = rw e at none in absurd cc
+  by_cell (Some n) e = rw e (lent_at a b n one (rw e at none))

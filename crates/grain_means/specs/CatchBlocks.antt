@@ -10,7 +10,7 @@ use Rattle.grain_means.specs.Worlds.{Act, Go, End, Failed, World, Setup, Frame, 
 use Rattle.grain_fault.specs.CatchValues.{caught_value}
 use Rattle.grain_host.specs.Law.{Law}
 use Rattle.grain_global.specs.declared.engines.Engine.{Engine}
-use Rattle.grain_means.specs.Rules.{caught, main}
+use Rattle.grain_means.specs.Rules.{caught, main, outermost}
 use Rattle.grain_means.specs.Comes.{CatchPoint, ComesToCatch}
 use Rattle.grain_means.specs.Means.{Begin, setup, first_world}
 
@@ -21,13 +21,16 @@ variable_entry program (Some n) x =
     new_entry (name_of program n) (read_write (caught_value program.source x)) ∷ []
 
 -- The catch block begins in a frame and a world: at the handler's target, with exactly as many
--- operands and entries of the scope as at its push, and with the variable above these; the handler
--- has caught the fault, and no step of a chain is blamed. It cost one operation.
+-- operands, cursors and entries of the scope as at its push, no more totals, and with the variable above
+-- the entries; the handler has caught the fault, and no step of a chain is blamed. It cost one operation.
 pub record CatchBlock {S : Type 0} (m : Setup S) (at : CatchPoint S) (f : Frame) (w : World S) :
     Type 0 where
   pub target : f.address ≡ at.handler.target
   pub operands : f.operands ≡ take at.handler.operands at.frame.operands
   pub as_many : length f.operands ≡ at.handler.operands
+  pub cursors : f.cursors ≡ outermost at.handler.cursors at.frame.cursors
+  pub as_many_cursors : length f.cursors ≡ at.handler.cursors
+  pub totals : f.totals ≡ outermost at.handler.totals at.frame.totals
   pub handlers : f.handlers ≡ record at.handler { caught = Some at.fault } ∷ at.frame.handlers
   pub base : f.base ≡ at.frame.base
   pub floor : f.floor ≡ at.frame.floor
@@ -46,11 +49,12 @@ pub record CatchBlock {S : Type 0} (m : Setup S) (at : CatchPoint S) (f : Frame)
 abbrev pub LeadsTo : {S : Type 0} → Setup S → CatchPoint S → Act S → Type 0
 LeadsTo m at act = caught m at.frame at.handler at.fault at.world ≡ act
 
--- The handler was armed, and there are as many operands as at its push, or more; and either the
+-- The handler was armed, and there are as many operands and cursors as at its push, or more; and either the
 -- catch fails, with a fault that no script may catch, or the catch block begins.
 pub record Catches {S : Type 0} (m : Setup S) (at : CatchPoint S) : Type 0 where
   pub armed : at.handler.caught ≡ None
   pub enough : at.handler.operands ≤ length at.frame.operands
+  pub enough_cursors : at.handler.cursors ≤ length at.frame.cursors
   pub leads :
       ((x : Problem) × (w : World S) × LeadsTo m at (End (Failed x) w) × (catchable x ≡ false))
       ⊎ ((f : Frame) × (w : World S) × LeadsTo m at (Go (InFrame f) w) × CatchBlock m at f w)

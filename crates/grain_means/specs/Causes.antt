@@ -9,7 +9,7 @@ pub mod Answers
 pub mod Positions
 pub mod Spots
 pub mod Chains
-pub use Rattle.grain_means.specs.Causes.Instructions.{truth_read, truth_on_top, Points, PointsNowhere, PointsFirst, HasReceiver, IsMethodCall, receiver, args_beside, function_beside, CallsPointed, CallsUnder, MissesPointed, AsksEither, PointedReadsLent, FirstReadsLent, MethodReadsLent, CallsOn, CallsFunction, Calls, Charges, IsCharged, HasTooMany, ReadsTop, Overfills, UsesEntry, Unwinds, Tests, AsksPointer, Throws, Holds, AssignsConstant, Misses, Operates, HasNoBuiltIn, Mistypes, IsLent, AssignsLent, HoldsThis, AsksThis, AssignsLentThis, StoresLent, ReadsLent}
+pub use Rattle.grain_means.specs.Causes.Instructions.{truth_read, truth_on_top, Points, PointsNowhere, PointsFirst, HasReceiver, IsMethodCall, receiver, args_beside, function_beside, CallsPointed, CallsUnder, MissesPointed, AsksEither, PointedReadsLent, FirstReadsLent, MethodReadsLent, CallsOn, CallsFunction, Calls, Charges, IsCharged, HasTooMany, ReadsTop, Overfills, IsOver, HasNext, CountsPast, SwitchesBack, GivesLent, GoesOverNone, CountsTooFar, UsesEntry, Unwinds, Tests, AsksPointer, Throws, Holds, AssignsConstant, Misses, Operates, HasNoBuiltIn, Mistypes, IsLent, AssignsLent, HoldsThis, AsksThis, AssignsLentThis, StoresLent, ReadsLent}
 pub use Rattle.grain_means.specs.Causes.Callbacks.{parameters, ThreePassed, IsTaken, IsKeptOut, IsEntered, first_asked, BackEnds, HearsOf, reply_again, answered_again_world, next_asked, next_asked_world, native_begins, NativeBack, question_back, IsCalledBack, native_asked_world, BackAsks, back_asked, back_start, AsksNext, at_first, again, AsksOn, of_native, inside, GoesPast, HostFails, RunsBack, body_back, LeavesBack, AsksFirst, asked_by, asked_in}
 pub use Rattle.grain_means.specs.Causes.Natives.{AssignsTo, AssignsByHost, Question, all_args, native_asked, reply_to, IsCalled, EndsWith, asks_first, AsksAgain, AsksSecond, AsksToAssign, AsksOnCopies, LendsReceiver, lent_last, AsksOnReceiver, AsksOnce, AsksNative, AsksLast, FindsNone, FindsNative, WritesConstant, HostAnswers}
 pub use Rattle.grain_means.specs.Causes.Spots.{untraced, ChainWalk, CallAsks, call_asked, call_start, IsReason, IsLeft, CallEnds, InvocationEnds, Invokes, WalksTo, AtStep, Falls, WalkRow}
@@ -26,7 +26,7 @@ use Rattle.grain_fault.specs.declared.places.Position.{Position}
 use Rattle.grain_fault.specs.declared.faults.MalformedKind.TheVariants as kind
 use Rattle.grain_fault.specs.declared.faults.EvalAltResult.{EvalAltResult}
 use Rattle.grain_fault.specs.declared.faults.EvalAltResult.TheVariants as fault
-use Rattle.grain_fault.specs.Problems.{FaultKind, FunctionNotFound, MismatchDataType, AssignmentToConstant, DataRace, IndexingType, NonPureCall, DotExpr, Arithmetic, Runtime, TooManyOperations, TooManyVariables, StackOverflow, UnboundThis, DataTooLarge, Terminated, Malformed, Problem, Plain, InFunctionCall, InModule, SystemError, NoMemory, problem_of}
+use Rattle.grain_fault.specs.Problems.{FaultKind, FunctionNotFound, MismatchDataType, AssignmentToConstant, DataRace, IndexingType, NonPureCall, DotExpr, Arithmetic, For, Runtime, TooManyOperations, TooManyVariables, StackOverflow, UnboundThis, DataTooLarge, Terminated, Malformed, Problem, Plain, InFunctionCall, InModule, SystemError, NoMemory, problem_of}
 use Rattle.grain_program.specs.declared.code.instruction_set.Op.{Op}
 use Rattle.grain_program.specs.declared.code.instruction_set.Op.TheVariants as op
 use Rattle.grain_program.specs.declared.code.functions.Function.{Function}
@@ -97,8 +97,10 @@ Raises m (MismatchDataType r a) at = Mistypes r a at.instruction at.frame at.wor
 Raises m (DataRace s) at = Races m s at
 Raises m (AssignmentToConstant s) at =
     AssignsConstant m.program s at.instruction at.frame at.world
-Raises m (Arithmetic s) at = (name : List ℕ) × (args : List Held) ×
-    Operates m (ArithmeticFault s) name args at.instruction at.frame at.world
+Raises m (Arithmetic s) at = ((name : List ℕ) × (args : List Held) ×
+    Operates m (ArithmeticFault s) name args at.instruction at.frame at.world)
+    ⊎ CountsTooFar s at.instruction at.frame
+Raises m For at = GoesOverNone at.instruction at.frame at.world
 Raises m (Runtime v) at =
     (flat at.world.cells (top at.frame.operands).value ≡ Some v) × Throws at.instruction
 Raises m TooManyOperations at = (m.engine.limits.operations ≤ at.world.count) ×

@@ -1,8 +1,11 @@
 -- The frames to which a run comes, and what a valid program has there.
-use Rattle.std.specs.Prelude.{◌≡◌, ◌≤◌, ℕ, List, None, Some, false, length, map}
+use Rattle.std.specs.Prelude.{◌≡◌, ◌≤◌, ℕ, List, None, Some, false, length, map, slice_get}
 use Rattle.grain_fault.specs.Problems.{Problem}
 use Rattle.grain_program.specs.declared.code.instruction_set.Op.{Op}
-use Rattle.grain_program.specs.Effects.{takes_of, handling_of}
+use Rattle.grain_program.specs.Effects.{cursors_taken, takes_of, handling_of, looping_of}
+use Rattle.grain_program.specs.Layout.{chunks_in}
+use Rattle.grain_program.specs.Starts.{Start}
+use Rattle.grain_program.specs.declared.code.parts.Chunk.{Chunk}
 use Rattle.grain_program.specs.Shapes.{TryHandler, lacks_handler}
 use Rattle.grain_program.specs.Indices.{InPools}
 use Rattle.grain_program.specs.Decoding.{op_at}
@@ -53,18 +56,28 @@ ComesToCatch m c act = Comes m (InCatch c.frame c.handler c.fault) c.world act
 
 -- handlers as a typing has them
 abbrev pub try_of : Handler → TryHandler
-try_of h = record { target = h.target; variable = h.variable; height = h.operands }
+try_of h = record {
+  target = h.target;
+  variable = h.variable;
+  height = h.operands;
+  cursors = h.cursors;
+}
 
 abbrev pub tries : List Handler → List TryHandler
 tries hs = map try_of hs
 
--- an instruction stands where the frame does, and its operands, its handler and its entries of the
--- pools are there
+-- an instruction of a chunk stands where the frame does, and its operands, its cursor, its handler and its
+-- entries of the pools are there
 pub record Stands (program : View) (f : Frame) : Type 0 where
+  pub chunk : Chunk
+  pub number : ℕ
+  pub is : slice_get (chunks_in program) number ≡ Some chunk
+  pub start : Start program.code chunk f.address
   pub instruction : Op
   pub width : ℕ
   pub stands : op_at program.code f.address ≡ Some (instruction, width)
   pub operands : takes_of program instruction ≤ length f.operands
+  pub cursor : cursors_taken (looping_of instruction) ≤ length f.cursors
   pub handler : lacks_handler (handling_of instruction) (tries f.handlers) ≡ false
   pub pools : InPools program instruction
 

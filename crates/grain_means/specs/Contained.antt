@@ -5,7 +5,7 @@ use Rattle.std.specs.Prelude.{ℕ, ◌≡◌, ◌≤◌, Bool, List, None, Resul
 use Rattle.std.specs.List.{AllByRecursion}
 use Rattle.grain_value.specs.Cells.{cell_bound, is_clean}
 use Rattle.grain_value.specs.Looking.{cell_of}
-use Rattle.grain_value.specs.View.{tree}
+use Rattle.grain_value.specs.View.{tree, value_of}
 use Rattle.grain_value.specs.declared.scopes.Entry.{Entry}
 use Rattle.grain_value.specs.declared.stores.Cell.{Cell}
 use Rattle.grain_value.specs.declared.values.Dynamic.{Dynamic}
@@ -16,7 +16,7 @@ use Rattle.grain_fault.specs.Problems.{Problem, problem_of}
 use Rattle.grain_program.specs.View.{View, const_of}
 use Rattle.grain_host.specs.Law.{Law}
 use Rattle.grain_means.specs.Means.{Begin}
-use Rattle.grain_means.specs.Worlds.{Answer, Came, Failed}
+use Rattle.grain_means.specs.Worlds.{Answer, Came, Cursor, Failed}
 
 -- a value names cells below this number only; where it is to be clean, it is
 abbrev pub Names : Bool → ℕ → Dynamic → Type 0
@@ -57,6 +57,10 @@ pub record Contained {S : Type 0} (law : Law S) (clean : Bool) (n : ℕ) (scope 
   pub reaches : law.reach host ≤ n
   pub waits : clean ≡ true → law.waits_clean host ≡ true
   pub hands : clean ≡ true → law.holds_clean host ≡ true
+
+-- what a loop still goes over names cells below this number only
+abbrev pub CursorNames : Bool → ℕ → Cursor → Type 0
+CursorNames clean n c = AllByRecursion (λ t. Names clean n (value_of t)) c.left
 
 -- what is held as a root names cells below this number only; a root may be a cell
 abbrev pub RootsName : Bool → ℕ → List Held → Type 0

@@ -18,8 +18,9 @@ use Rattle.grain_program.specs.declared.code.parts.Chunk.{Chunk}
 use Rattle.grain_host.specs.Law.{Law}
 use Rattle.grain_global.specs.declared.engines.Engine.{Engine}
 use Rattle.grain_global.specs.Engines.{with_callbacks}
-use Rattle.grain_means.specs.Worlds.{Came, Failed, Answer}
-use Rattle.grain_means.specs.Means.{Begin, Finish, Means}
+use Rattle.grain_means.specs.Worlds.{Act, Go, End, Then, Answer, Came, Failed, Setup, Todo, InFrame, InCatch, InHost, World}
+use Rattle.grain_means.specs.Rules.{main, next, or_return}
+use Rattle.grain_means.specs.Means.{Begin, Finish, first_world, last_world, setup}
 
 -- two colons stand side by side in a name
 abbrev has_colons : List ℕ → Bool
@@ -81,6 +82,11 @@ is_core p (op.CallFnPtrMethod n) = true
 is_core p (op.CallFnPtrOnLocal n s) = true
 is_core p (op.CallFnPtrOnThis n) = true
 is_core p (op.Chain k) = is_core_root (chain_of p k).root
+is_core p (op.Switch k) = false
+is_core p op.IterInit = false
+is_core p op.IterDrop = false
+is_core p (op.IterNext t) = false
+is_core p (op.IterNextIndexed t s) = false
 is_core p (op.UnwindTo d) = true
 is_core p op.Tick = true
 is_core p op.Checkpoint = true
@@ -96,13 +102,29 @@ abbrev pub IsCore : View → Type 0
 IsCore p = (c : Chunk) (a width : ℕ) (o : Op) → In c (chunks_in p) → Start p.code c a →
     op_at p.code a ≡ Some (o, width) → is_core p o ≡ true
 
+-- what a run stands at is of the core: an instruction of it, a catch, or a call that a native asks for
+abbrev pub is_core_todo : View → Todo → Bool
+is_core_todo p (InFrame f) = is_core p (or_return (op_at p.code f.address)).0
+is_core_todo p (InCatch f h x) = true
+is_core_todo p (InHost c) = true
+
+-- how a run ends by the rules of the core alone: as `Ends` says, and each instruction is one of the core
+pub data CoreEnds {S : Type 0} (m : Setup S) : Act S → Answer → World S → Type 0 where
+  core_ended : {a : Answer} {w : World S} → CoreEnds m (End a w) a w
+  core_went : {t : Todo} {w v : World S} {a : Answer} → is_core_todo m.program t ≡ true →
+      CoreEnds m (next m t w) a v → CoreEnds m (Go t w) a v
+  core_joined : {first : Act S} {rest : Answer → World S → Act S} {b a : Answer} {w v : World S} →
+      CoreEnds m first b w → CoreEnds m (rest b w) a v → CoreEnds m (Then first rest) a v
+
 -- The end of a core program's main run: main runs on the scope, without operands, handlers and `this`,
 -- at the count and the level of the global state. The end is the answer (the value, the value of an
 -- `Exit`, or the fault), the trace, and the scope, the cells, the host's state and the global state
--- afterwards. Natives may call functions back.
+-- afterwards. Natives may call functions back. How many instructions were begun, and how many marks
+-- passed, does not matter.
 abbrev pub CoreMeans : {S : Type 0} → Law S → View → Engine → Begin S → Finish S → Type 0
-CoreMeans law program engine b e =
-    (instructions : ℕ) × Means law program (with_callbacks true engine) b e instructions
+CoreMeans {S = S} law program engine b e =
+    let m : Setup S = setup law program (with_callbacks true engine) in
+    (ran : ℕ) × (passed : ℕ) × CoreEnds m (main m (first_world b)) e.answer (last_world e ran passed)
 
 -- the answer of a call, unless it is want of memory
 abbrev pub answers_so : Result Dynamic EvalAltResult → (Answer → Type 0) → Type 0

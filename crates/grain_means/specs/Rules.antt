@@ -7,6 +7,7 @@ pub mod Catching
 pub mod Going
 pub mod Reads
 pub mod Transfers
+pub mod Loops
 pub mod Entries
 pub mod Homes
 pub mod Natives
@@ -21,10 +22,11 @@ pub mod Receivers
 pub use Rattle.grain_means.specs.Rules.Frames.{stepped, without, frame_at, held_at, is_full, name_at, flag_of_cell, only_read, is_read_only, held_or}
 pub use Rattle.grain_means.specs.Worlds.{is_stop}
 pub use Rattle.grain_means.specs.Rules.Faults.{race_text, no_memory, kind_throws_unit, throws_unit, thrown_anew, outer_handlers, own_or, position, leave_by_fault, marked_or, marked, if_armed, offered_to, offered, raised, on_verdict_or, progressed_or, operation_taken, on_verdict, progressed, charged_or, charged, escaped, data_race}
-pub use Rattle.grain_means.specs.Rules.Catching.{catching, resumed, push_handler, bind_caught, caught}
+pub use Rattle.grain_means.specs.Rules.Catching.{outermost, catching, resumed, push_handler, bind_caught, caught}
 pub use Rattle.grain_means.specs.Rules.Going.{onward, jumped, pushed}
 pub use Rattle.grain_means.specs.Rules.Reads.{flat_before, flat_all, flat_or_race, flattened, all_or_race, flattened_all}
 pub use Rattle.grain_means.specs.Rules.Transfers.{agrees, branched, not_a_bool, tested, jump_if, skip, unwind}
+pub use Rattle.grain_means.specs.Rules.Loops.{cursor_over, innermost_cursor, outer_cursors, with_cursor, without_cursor, advanced, counter_text, loop_begun, iter_init, iter_drop, count_stored, item_given, item_counted, loop_left, loop_advanced, iter_next, switch}
 pub use Rattle.grain_means.specs.Rules.Entries.{cell_written, written_at, assigned_at, slot_past_scope, at_entry, at_slot, load_local, load_shared, shared, share, declare, assignment_to_constant, write_entry, operand_for, store_local, assign}
 pub use Rattle.grain_means.specs.Rules.Homes.{Home, InScope, InCell, AtPlace, in_entry, at_place_of, back_in_scope, back_in_cells, back_in_roots, lent_in_cells, content_at, content_now}
 pub use Rattle.grain_means.specs.Rules.Natives.{kinds_in, trees_in, first_is_read_only, Receiver, lent_held, given, given_back, cells_given_back, roots_given_back, receiver_left, cells_lent, with_token, unheard, native_over, answered, host_called_or, native_called_or, native_found_or, native_or, host_called, native_called, native_found, native}
@@ -92,6 +94,11 @@ module _ {S : Type 0} (m : Setup S) where
   instr (op.JumpIfFalse target) next f w = jump_if m false target next f w
   instr (op.JumpIfTrue target) next f w = jump_if m true target next f w
   instr (op.SkipIfNotUnit target) next f w = skip m (is_unit (top f.operands).value) target next f w
+  instr (op.Switch k) next f w = switch m k f w
+  instr op.IterInit next f w = iter_init m next f w
+  instr op.IterDrop next f w = iter_drop m next f w
+  instr (op.IterNext target) next f w = iter_next m target None next f w
+  instr (op.IterNextIndexed target slot) next f w = iter_next m target (Some slot) next f w
   instr (op.Call n count) next f w =
       call_function m (function_found m.program n count) (name_of m.program n) count f next w
   instr (op.CallOp n count o) next f w =

@@ -1,5 +1,5 @@
 -- What a run stands on: worlds, frames, and what is still to be done.
-use Rattle.std.specs.Prelude.{ℕ, Bool, false, nat_eq, List, Option, Some, None}
+use Rattle.std.specs.Prelude.{ℕ, ℤ, Bool, false, nat_eq, List, Option, Some, None}
 use Rattle.grain_value.specs.declared.values.Dynamic.{Dynamic}
 use Rattle.grain_value.specs.declared.values.FnPtr.{FnPtr}
 use Rattle.grain_value.specs.declared.values.Held.{Held}
@@ -36,24 +36,40 @@ pub record Receiver : Type 0 where
   pub home : Home
   pub held : Held
 
+-- A loop of a frame: the items that are left, and the number of the last one that was given, from -1 on.
+pub record Cursor : Type 0 where
+  pub left : List Tree
+  pub counter : ℤ
+
+-- how many elements of arrays and of maps, and how many bytes of texts, a literal has so far
+pub record Total : Type 0 where
+  pub arrays : ℕ
+  pub maps : ℕ
+  pub text : ℕ
+
 -- A handler of a frame: where the frame goes on after a catch, the index of the name of its
--- variable, if it has one, how many operands and how many entries of the scope there were where it
--- was pushed, and the fault that it has caught: it is armed until it has caught one.
+-- variable, if it has one, how many operands, cursors, totals and entries of the scope there were where
+-- it was pushed, and the fault that it has caught: it is armed until it has caught one.
 pub record Handler : Type 0 where
   pub target : ℕ
   pub variable : Option ℕ
   pub operands : ℕ
+  pub cursors : ℕ
+  pub totals : ℕ
   pub scope : ℕ
   pub caught : Option Problem
 
--- A frame: the address of its instruction, its own operands, its own handlers, the innermost first,
--- the scope's length at its entry, from which its slots count, the length to which a fault cuts the
--- scope, and the place of its `this`, if any. While it walks a chain, and until a fault of the walk is
--- caught, it has the slot by which a trace names the step that is blamed; while a step is done, it
--- has the position that stands in place of its instruction's.
+-- A frame: the address of its instruction, its own operands, the newest last, its own cursors, totals
+-- and handlers, of each the innermost first, the scope's length at its entry, from which its slots
+-- count, the length to which a fault cuts the scope, and the place of its `this`, if any. While it
+-- walks a chain, and until a fault of the walk is caught, it has the slot by which a trace names the
+-- step that is blamed; while a step is done, it has the position that stands in place of its
+-- instruction's.
 pub record Frame : Type 0 where
   pub address : ℕ
   pub operands : List Held
+  pub cursors : List Cursor
+  pub totals : List Total
   pub handlers : List Handler
   pub base : ℕ
   pub floor : ℕ

@@ -11,11 +11,13 @@ ghost use Rattle.grain_fault.specs.Problems.{Problem};
 ghost use Rattle.grain_fault.specs.declared.places.Position.{Position};
 ghost use Rattle.grain_fault.specs.declared.traces.Fault.{Fault};
 ghost use Rattle.grain_means.specs.Comes.{CatchPoint, Comes, ComesToCatch, Stands};
+ghost use Rattle.grain_means.specs.Core.{CoreMeans, IsCore};
 ghost use Rattle.grain_means.specs.Ends.{Ends};
 ghost use Rattle.grain_means.specs.Leavings.{names, Keeps, Cuts};
 ghost use Rattle.grain_means.specs.Length.{run_length};
 ghost use Rattle.grain_means.specs.Means.{Begin, Finish, Means, Over, slowly};
 ghost use Rattle.grain_global.specs.declared.engines.Engine.{Engine};
+ghost use Rattle.grain_global.specs.Engines.{with_callbacks};
 ghost use Rattle.grain_program.specs.View.{View};
 ghost use Rattle.grain_host.specs.Law.{Law, IsLawful};
 ghost use Rattle.grain_means.specs.Contained.{AnswerNames, ConstantsName, Contained, RootsName};
@@ -69,7 +71,7 @@ pub fn counted<S>()
 {}
 
 /// Where the run of a valid program, which began without a trace, comes to a frame, an instruction
-/// stands there, and its operands, its handler and its entries of the pools are there.
+/// stands there, and its operands, its cursor, its handler and its entries of the pools are there.
 pub fn provided<S>()
     ensures { (m : Setup S) (this : Option Place) (w v : World S) (f : Frame) →
         IsProgram m.program → w.trace ≡ [] → Comes m (InFrame f) v (called m this w) →
@@ -87,7 +89,7 @@ pub fn bound_places<S>()
 
 /// Where the run of a valid program, which began without a trace, comes to a handler that catches,
 /// either the catch fails with a fault that no script may catch, or the catch block begins, with
-/// exactly as many operands and entries of the scope as there were at the handler's push.
+/// exactly as many operands, cursors and entries of the scope as there were at the handler's push.
 pub fn catches<S>()
     ensures { (m : Setup S) (this : Option Place) (w : World S) (at : CatchPoint S) →
         IsProgram m.program → w.trace ≡ [] → ComesToCatch m at (called m this w) → Catches m at }
@@ -111,6 +113,18 @@ pub fn one_meaning<S>()
     ensures { (law : Law S) (program : View) (engine : Engine) (b : Begin S) (e f : Finish S)
         (n k : ℕ) →
         Means law program engine b e n → Means law program engine b f k → (e ≡ f) × (n ≡ k) }
+{}
+
+/// Under an engine with callbacks, an end by the rules of the core alone is an end by all rules (`means`).
+/// And where the program is a valid one of the core, each end by all rules is one by the rules of the
+/// core alone (`core`).
+pub fn core_agrees<S>()
+    ensures means { (law : Law S) (program : View) (engine : Engine) (b : Begin S) (e : Finish S) →
+        CoreMeans law program engine b e →
+        (n : ℕ) × Means law program (with_callbacks true engine) b e n }
+    ensures core { (law : Law S) (program : View) (engine : Engine) (b : Begin S) (e : Finish S) →
+        IsProgram program → IsCore program → (n : ℕ) →
+        Means law program (with_callbacks true engine) b e n → CoreMeans law program engine b e }
 {}
 
 /// In a run in which memory is never out, each mark is passed: what stands after it is done, and the mark is

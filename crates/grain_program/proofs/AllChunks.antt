@@ -116,7 +116,7 @@ module _ (p : View) (chunks : List Chunk) (laid : layout_fault (length p.code) c
     at : (i : ℕ) (c : Chunk) (a : ℕ) (r : Op × ℕ) (s : Shape) → slice_get chunks i ≡ Some c
         → Start p.code c a → op_at p.code a ≡ Some r → In a f.waiting
         ⊎ (None_out p chunks laid w a ⊎ Done p chunks f a s)
-        → Agrees (shape_at f.shapes) c.max_stack a r.1 (effect_of p r.0) s
+        → Agrees p (shape_at f.shapes) c.max_stack a r.1 (effect_of p r.0) s
     at i c a r s g st is (inl j) = absurd (subst (In a) o.over j)
     at i c a r s g st is (inr (inl out)) = absurd out
     at i c a r s g st is (inr (inr d)) = d i c r g st is

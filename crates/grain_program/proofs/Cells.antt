@@ -8,23 +8,29 @@ use Rattle.grain_program.specs.Shapes.{Shape}
 use Rattle.grain_program.specs.Numbered.{numbered_shape, shape_in}
 
 abbrev empty : Cell
-empty = record { height = 0; list = 0 }
+empty = record { height = 0; cursors = 0; list = 0 }
 
 cells_none : (n : ℕ) → map shape_in (replicate n empty) ≡ replicate n None
 cells_none zero = refl
 cells_none (suc n) = ap (λ (l : List (Option NumberedShape)). None ∷ l) (cells_none n)
 
-pub cells_new : (n : ℕ) (xs : List Cell) → xs ≡ replicate n (record { height = 0; list = 0 })
+pub cells_new : (n : ℕ) (xs : List Cell)
+    → xs ≡ replicate n (record { height = 0; cursors = 0; list = 0 })
     → map shape_in xs ≡ replicate n None
 cells_new n xs e = ap (map shape_in) e ∙ cells_none n
 
 pub cells_put : (xs : List Cell) (ys : List (Option NumberedShape)) (i : ℕ) (s : NumberedShape)
     → map shape_in xs ≡ ys
-    → map shape_in (set xs i (record { height = s.height + 1; list = s.list }))
+    → map shape_in (set xs i (record {
+      height = s.height + 1;
+      cursors = s.cursors;
+      list = s.list;
+    }))
     ≡ set ys i (Some s)
 cells_put xs ys i s e =
-    map-set shape_in xs i (record { height = s.height + 1; list = s.list })
-    ∙ ap (λ (n : ℕ). set (map shape_in xs) i (numbered_shape n s.list)) (add-one s.height)
+    map-set shape_in xs i (record { height = s.height + 1; cursors = s.cursors; list = s.list })
+    ∙ ap (λ (n : ℕ). set (map shape_in xs) i (numbered_shape n s.cursors s.list))
+    (add-one s.height)
     ∙ ap (λ (l : List (Option NumberedShape)). set l i (Some s)) e
 
 -- how many addresses have no shape

@@ -194,6 +194,7 @@ pool_decides p (field.Constant n) = lt_decides n (length p.consts)
 pool_decides p (field.Name n) = lt_decides n (length p.names)
 pool_decides p (field.Assignment n) = named_decides p n
 pool_decides p (field.Chain n) = chain_decides p n
+pool_decides p (field.Switch n) = lt_decides n (length p.switches)
 pool_decides p (field.Token n) = lt_decides n (length p.tokens)
 pool_decides p (field.Slot n) = tt
 pool_decides p (field.Target n) = tt
@@ -261,4 +262,5 @@ pub stays_decide : (c : Chunk) (next : ℕ) (w : Flow)
 stays_decide c next flow.Next = lt_decides next c.end
 stays_decide c next (flow.Jump t) = tt
 stays_decide c next (flow.Branch t) = lt_decides next c.end
+stays_decide c next (flow.Switch k) = tt
 stays_decide c next flow.End = tt

@@ -1,5 +1,5 @@
 -- What an arrival does to what is seen.
-use Rattle.std.proofs.Common.{◌≡◌, ℕ, ◌+◌, ◌<◌, ◌≤◌, ◌⊎◌, Bool, true, false, cond, List, [], ◌∷◌, length, Option, Some, None, Result, Ok, refl, sym, ap, subst, ◌∙◌, inl, inr, arith}
+use Rattle.std.proofs.Common.{◌≡◌, ℕ, ◌+◌, ◌<◌, ◌≤◌, ◌⊎◌, Bool, true, false, cond, List, [], ◌∷◌, length, map, Option, Some, None, Result, Ok, refl, sym, ap, subst, ◌∙◌, inl, inr, arith}
 use Rattle.std.specs.Prelude.{slice_get, nat_lt}
 use Rattle.std.specs.Ordering.{nat_cmp}
 use Rattle.std.specs.BTreeSet.{insert_key}
@@ -10,15 +10,16 @@ use Rattle.grain_program.specs.declared.code.instruction_set.Op.{Op}
 use Rattle.grain_program.specs.declared.code.parts.Chunk.{Chunk}
 use Rattle.grain_program.specs.declared.verifier.refusals.Refusal.{Refusal}
 use Rattle.grain_program.specs.Decoding.{op_at}
+use Rattle.grain_program.specs.declared.code.effects.Effect.{Effect}
 use Rattle.grain_program.specs.declared.code.effects.Flow.{Flow}
 use Rattle.grain_program.specs.declared.code.effects.Flow.TheVariants as flow
 use Rattle.grain_program.specs.View.{View}
-use Rattle.grain_program.specs.Effects.{effect_of, flow_of, leads}
+use Rattle.grain_program.specs.Effects.{effect_of, switch_leads, leads, leads_of}
 use Rattle.grain_program.specs.Starts.{Start}
 use Rattle.grain_program.specs.Rules.{InstructionStart}
-use Rattle.grain_program.specs.Shapes.{Shape, bare, after, Arrival, arrival, arrivals, shape_after, clash, shape_at}
+use Rattle.grain_program.specs.Shapes.{Shape, bare, after, at_target, Arrival, arrival, reached, arrivals, shape_after, clash, shape_at}
 use Rattle.grain_program.specs.Typing.{In, Agrees, AnalysisState, ◌>>=◌, unless, noted, meets, arrive, arrive_all, take_op, take_at}
-use Rattle.grain_program.proofs.Ascending.{new_in, old_in, new_or_old, one_longer}
+use Rattle.grain_program.specs.laws.Ascending.{new_in, old_in, new_or_old, one_longer}
 use Rattle.grain_program.proofs.Cells.{free, free_put}
 use Rattle.grain_program.proofs.ShapeSteps.{then_ok, Stepped, stepped_is, stepped_ok, clash_none, clash_self}
 
@@ -62,34 +63,42 @@ pub record Spread (f g : AnalysisState) (xs : List Arrival) : Type 0 where
   pub less : free g.shapes + length g.waiting ≤ free f.shapes + length f.waiting
 
 -- an address that is reached is reached with some shape
-reached : (xs : List Arrival) (a : ℕ) → In a (addresses xs)
+reached_with : (xs : List Arrival) (a : ℕ) → In a (addresses xs)
     → (x : Arrival) × In x xs × (a ≡ x.address)
-reached [] a i = absurd i
-reached (x ∷ xs) a (inl e) = (x, inl refl, e)
-reached (x ∷ xs) a (inr i) = let r = reached xs a i in (r.0, inr r.1, r.2)
+reached_with [] a i = absurd i
+reached_with (x ∷ xs) a (inl e) = (x, inl refl, e)
+reached_with (x ∷ xs) a (inr i) = let r = reached_with xs a i in (r.0, inr r.1, r.2)
 
 -- a shape is known wherever shapes have come
 pub known_there : (f g : AnalysisState) (xs : List Arrival) → Spread f g xs → (a : ℕ)
     → In a (addresses xs) → (s : Shape) × (shape_at g.shapes a ≡ Some s)
 known_there f g xs spread a i =
-    let r = reached xs a i in
+    let r = reached_with xs a i in
     (r.0.shape, ap (shape_at g.shapes) r.2 ∙ spread.there r.0 r.1)
 
+pub addresses_each : (bs : List ℕ) (t : Shape) → addresses (map (λ b. arrival b t) bs) ≡ bs
+addresses_each [] t = refl
+addresses_each (b ∷ bs) t = ap (λ (l : List ℕ). b ∷ l) (addresses_each bs t)
+
 -- a flow reaches the addresses to which it leads
-pub reaches : (w : Flow) (next : ℕ) (s : Shape) → addresses (arrivals w next s) ≡ leads w next
-reaches flow.Next next s = refl
-reaches (flow.Jump t) next s = refl
-reaches (flow.Branch t) next s = at (nat_lt t next) where
-  at : (q : Bool) → addresses (cond q (arrival t s ∷ arrival next s ∷ []) (arrival next s ∷ arrival
-      t s ∷ [])) ≡ cond q (t ∷ next ∷ []) (next ∷ t ∷ [])
+reaches_flow : (p : View) (w : Flow) (next : ℕ) (s t : Shape)
+    → addresses (reached p w next s t) ≡ leads p w next
+reaches_flow p flow.Next next s t = refl
+reaches_flow p (flow.Jump a) next s t = refl
+reaches_flow p (flow.Branch a) next s t = at (nat_lt a next) where
+  at : (q : Bool) → addresses (cond q (arrival a t ∷ arrival next s ∷ []) (arrival next s ∷ arrival
+      a t ∷ [])) ≡ cond q (a ∷ next ∷ []) (next ∷ a ∷ [])
   at true = refl
   at false = refl
-reaches flow.End next s = refl
+reaches_flow p (flow.Switch k) next s t = addresses_each (switch_leads p k) t
+reaches_flow p flow.End next s t = refl
 
--- what holds wherever a flow leads holds wherever it reaches
-pub where_it_reaches : (P : ℕ → Type 0) (w : Flow) (next : ℕ) (s : Shape)
-    → ((b : ℕ) → In b (leads w next) → P b) → (b : ℕ) → In b (addresses (arrivals w next s)) → P b
-where_it_reaches P w next s h b i = h b (subst (In b) (reaches w next s) i)
+-- what holds wherever an effect leads holds wherever it reaches
+pub where_it_reaches : (P : ℕ → Type 0) (p : View) (e : Effect) (next : ℕ) (s : Shape)
+    → ((b : ℕ) → In b (leads p e.flow next) → P b) → (b : ℕ)
+    → In b (addresses (arrivals p e next s)) → P b
+where_it_reaches P p e next s h b i =
+    h b (subst (In b) (reaches_flow p e.flow next s (at_target e s)) i)
 
 module _ (s : Shape) where
   module _ (f : AnalysisState) (b : ℕ) (lt : b < length f.shapes) (none : shape_at f.shapes
@@ -226,27 +235,28 @@ pub record Moved (p : View) (max a : ℕ) (r : Op × ℕ) (t : Shape) (f g : Ana
   where
     pub shape : Shape
     pub shape_after : Stepped max (effect_of p r.0) t shape
-    pub spread : Spread f g (arrivals (flow_of r.0) (a + r.1) shape)
+    pub spread : Spread f g (arrivals p (effect_of p r.0) (a + r.1) shape)
 
 module _ (p : View) (max a : ℕ) (r : Op × ℕ) (t : Shape) (f : AnalysisState) (is : op_at p.code
     a ≡ Some r) (known : shape_at f.shapes a ≡ Some t) where
   taking : take_at p max a f ≡ (shape_after max a (effect_of p r.0) t >>= λ s. arrive_all
-      (arrivals (flow_of r.0) (a + r.1) s) f)
+      (arrivals p (effect_of p r.0) (a + r.1) s) f)
   taking = ap (λ o. take_op p max a f o (shape_at f.shapes a)) is
       ∙ ap (λ o. take_op p max a f (Some r) o) known
 
-  pub moved : (g : AnalysisState) → ((b : ℕ) → In b (leads (flow_of r.0) (a + r.1))
+  pub moved : (g : AnalysisState) → ((b : ℕ) → In b (leads_of p r.0 (a + r.1))
       → b < length f.shapes) → take_at p max a f ≡ Ok g → Moved p max a r t f g
   moved g within e =
       let m =
-      then_ok (shape_after max a (effect_of p r.0) t) (λ s. arrive_all (arrivals (flow_of r.0)
+      then_ok (shape_after max a (effect_of p r.0) t) (λ s. arrive_all (arrivals p (effect_of p r.0)
       (a + r.1) s) f) g (sym taking ∙ e) in
       record {
         shape = m.0;
         shape_after = stepped_is max a (effect_of p r.0) t m.0 m.1;
         spread =
-            arrive_all_spread (arrivals (flow_of r.0) (a + r.1) m.0) f g
-            (where_it_reaches (λ b. b < length f.shapes) (flow_of r.0) (a + r.1) m.0 within) m.2;
+            arrive_all_spread (arrivals p (effect_of p r.0) (a + r.1) m.0) f g
+            (where_it_reaches (λ b. b < length f.shapes) p (effect_of p r.0) (a + r.1) m.0 within)
+            m.2;
       }
 
 -- ---- what stays true
@@ -256,7 +266,7 @@ module _ (p : View) (chunks : List Chunk) where
   abbrev pub Done : AnalysisState → ℕ → Shape → Type 0
   Done f a s =
       (i : ℕ) (c : Chunk) (r : Op × ℕ) → slice_get chunks i ≡ Some c → Start p.code c a
-      → op_at p.code a ≡ Some r → Agrees (shape_at f.shapes) c.max_stack a r.1 (effect_of p r.0) s
+      → op_at p.code a ≡ Some r → Agrees p (shape_at f.shapes) c.max_stack a r.1 (effect_of p r.0) s
 
   -- each known address is a start that waits or is done, unless it is left out; each waiting one is
   -- known
@@ -273,6 +283,7 @@ module _ (p : View) (chunks : List Chunk) where
       let x = d i c r h k e in
       record {
         enough = x.enough;
+        cursor = x.cursor;
         handler = x.handler;
         above = x.above;
         room = x.room;
@@ -363,16 +374,16 @@ arrive_all_fits typing (x ∷ xs) f ys below =
 -- a typing that agrees with the instruction lets it be taken
 pub take_fits : (p : View) (typing : ℕ → Option Shape) (max a : ℕ) (r : Op × ℕ) (t : Shape)
     (f : AnalysisState) → op_at p.code a ≡ Some r → shape_at f.shapes a ≡ Some t
-    → Agrees typing max a r.1 (effect_of p r.0) t → Below typing f
+    → Agrees p typing max a r.1 (effect_of p r.0) t → Below typing f
     → (g : AnalysisState) × (take_at p max a f ≡ Ok g) × Below typing g
 take_fits p typing max a r t f is known agrees below =
     let all =
-    arrive_all_fits typing (arrivals (flow_of r.0) (a + r.1) (after (effect_of p r.0) t)) f
+    arrive_all_fits typing (arrivals p (effect_of p r.0) (a + r.1) (after (effect_of p r.0) t)) f
     agrees.arrives below in
-    let fine = stepped_ok max a (effect_of p r.0) t agrees.enough agrees.handler agrees.above
-    agrees.room in (
+    let fine = stepped_ok max a (effect_of p r.0) t agrees.enough agrees.cursor agrees.handler
+    agrees.above agrees.room in (
       all.0,
       taking p max a r t f is known ∙ ap (λ (o : Result Shape Refusal). o
-          >>= λ s. arrive_all (arrivals (flow_of r.0) (a + r.1) s) f) fine ∙ all.1,
+          >>= λ s. arrive_all (arrivals p (effect_of p r.0) (a + r.1) s) f) fine ∙ all.1,
       all.2,
     )

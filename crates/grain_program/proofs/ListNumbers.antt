@@ -1,21 +1,17 @@
 -- The table of handler lists: what a number stands for, and that a list has one number.
-use Rattle.std.proofs.Common.{◌≡◌, ℕ, zero, suc, ◌+◌, ◌-◌, ◌<◌, ◌≤◌, ◌⊎◌, Bool, true, false, cond, List, [], ◌∷◌, ◌++◌, length, get_or, Option, Some, None, refl, sym, ap, subst, ◌∙◌, inl, inr, arith, add-one, length-append}
-use Rattle.std.specs.Prelude.{slice_get, ◌==◌, ◌&&◌}
-use Rattle.std.specs.Ordering.{nat_cmp, is_eq, ordering_then, MatchOrdering}
-use Rattle.std.specs.Option.{option_cmp}
-use Rattle.std.specs.declared.cmp.Ordering.{Ordering}
-use Rattle.std.specs.declared.cmp.Ordering.TheVariants.{Less, Equal, Greater}
-use Rattle.std.specs.Cmp.{tied_then}
+use Rattle.std.proofs.Common.{◌≡◌, ℕ, zero, suc, ◌+◌, ◌-◌, ◌<◌, ◌≤◌, ◌⊎◌, Bool, true, false, cond, List, [], ◌∷◌, ◌++◌, length, get_or, Some, None, refl, sym, ap, subst, ◌∙◌, inl, inr, arith, add-one, length-append}
+use Rattle.std.specs.Prelude.{slice_get, ◌==◌}
+use Rattle.std.specs.Ordering.{is_eq}
 use Rattle.std.specs.BTreeMap.{BTreeMap, get, Updates}
 use Rattle.std.proofs.Math.ListN.{get_or-append}
 use Rattle.std.proofs.Math.Seq.{get_or-append_seam}
 use Rattle.std.proofs.lemmas.Bool.{eqb-true, eqb-false}
-use Rattle.std.proofs.lemmas.Cmp.{ranked}
 use Rattle.std.proofs.lemmas.Option.{slice_get_cases, slice_get_within, slice_get-get_or}
 use Rattle.grain_program.specs.declared.verifier.handlers.Node.{Node}
 use Rattle.grain_program.specs.Shapes.{TryHandler, same_handlers}
 use Rattle.grain_program.specs.HandlerLists.{list_at, Grows, handler_of, node_list, lists_from, node_cmp, IsTable}
-use Rattle.grain_program.proofs.SameHandlers.{both_true, handlers_same, handlers_self}
+use Rattle.grain_program.proofs.SameHandlers.{handlers_same, handlers_self}
+use Rattle.grain_program.proofs.NodeKeys.{node, nodes_tied, node_tied}
 
 -- ---- numbers keep their lists
 
@@ -94,71 +90,6 @@ list_more nodes n =
     ∙ list_at_last (lists nodes) (node_list (lists nodes) n) (suc (length nodes))
     (ap suc (sym (table_long nodes)))
 
--- ---- nodes as keys
-
-numbers_tied : (a b : ℕ) → is_eq (nat_cmp a b) ≡ true → a ≡ b
-numbers_tied a b e = at (nat_cmp a b) (ranked a b (nat_cmp a b) refl) e where
-  at : (o : Ordering) → MatchOrdering o (a < b) (a ≡ b) (b < a) → is_eq o ≡ true → a ≡ b
-  at Less h e = absurd cc
-  at Equal h e = h
-  at Greater h e = absurd cc
-
-number_tied : (a : ℕ) → is_eq (nat_cmp a a) ≡ true
-number_tied a = at (nat_cmp a a) (ranked a a (nat_cmp a a) refl) where
-  at : (o : Ordering) → MatchOrdering o (a < a) (a ≡ a) (a < a) → is_eq o ≡ true
-  at Less h = absurd (omega (arith, h))
-  at Equal h = refl
-  at Greater h = absurd (omega (arith, h))
-
-variables_tied : (x y : Option ℕ) → is_eq (option_cmp nat_cmp x y) ≡ true → x ≡ y
-variables_tied None None e = refl
-variables_tied None (Some n) e = absurd cc
-variables_tied (Some m) None e = absurd cc
-variables_tied (Some m) (Some n) e = ap (λ (k : ℕ). Some k) (numbers_tied m n e)
-
-variable_tied : (x : Option ℕ) → is_eq (option_cmp nat_cmp x x) ≡ true
-variable_tied None = refl
-variable_tied (Some n) = number_tied n
-
-then_tied : (a b : Ordering) → is_eq (ordering_then a b) ≡ true
-    → (is_eq a ≡ true) × (is_eq b ≡ true)
-then_tied a b e = both_true (is_eq a) (is_eq b) (tied_then a b ∙ e)
-
-tied_both : (a b : Ordering) → is_eq a ≡ true → is_eq b ≡ true
-    → is_eq (ordering_then a b) ≡ true
-tied_both a b e f = sym (tied_then a b) ∙ ap (λ (x : Bool). x && is_eq b) e ∙ f
-
-abbrev node : ℕ → ℕ → Option ℕ → ℕ → Node
-node outer target variable height =
-    record { outer = outer; target = target; variable = variable; height = height }
-
--- nodes at one place in the order are one
-nodes_tied : (m n : Node) → is_eq (node_cmp m n) ≡ true → m ≡ n
-nodes_tied m n e =
-    let a =
-    then_tied (nat_cmp m.outer n.outer) (ordering_then (nat_cmp m.target n.target)
-    (ordering_then (option_cmp nat_cmp m.variable n.variable) (nat_cmp m.height n.height))) e in
-    let b =
-    then_tied (nat_cmp m.target n.target) (ordering_then (option_cmp nat_cmp m.variable n.variable)
-    (nat_cmp m.height n.height)) a.1 in
-    let c =
-    then_tied (option_cmp nat_cmp m.variable n.variable) (nat_cmp m.height n.height) b.1 in
-    ap (λ (x : ℕ). node x m.target m.variable m.height) (numbers_tied m.outer n.outer a.0)
-    ∙ ap (λ (x : ℕ). node n.outer x m.variable m.height) (numbers_tied m.target n.target b.0)
-    ∙ ap (λ (x : Option ℕ). node n.outer n.target x m.height)
-    (variables_tied m.variable n.variable c.0)
-    ∙ ap (λ (x : ℕ). node n.outer n.target n.variable x) (numbers_tied m.height n.height c.1)
-
-node_tied : (n : Node) → is_eq (node_cmp n n) ≡ true
-node_tied n =
-    tied_both (nat_cmp n.outer n.outer) (ordering_then (nat_cmp n.target n.target)
-    (ordering_then (option_cmp nat_cmp n.variable n.variable) (nat_cmp n.height n.height)))
-    (number_tied n.outer)
-    (tied_both (nat_cmp n.target n.target) (ordering_then (option_cmp nat_cmp n.variable n.variable)
-    (nat_cmp n.height n.height)) (number_tied n.target)
-    (tied_both (option_cmp nat_cmp n.variable n.variable) (nat_cmp n.height n.height)
-    (variable_tied n.variable) (number_tied n.height)))
-
 -- ---- one table
 
 module _ (nodes : List Node) (numbers : BTreeMap Node ℕ) (t : IsTable nodes numbers) where
@@ -189,8 +120,8 @@ module _ (nodes : List Node) (numbers : BTreeMap Node ℕ) (t : IsTable nodes nu
   -- nodes of one list are one, where the lists around them have one number
   one_node : (m n : Node) → m.outer ≡ n.outer → handler_of m ≡ handler_of n → m ≡ n
   one_node m n e f =
-      ap (λ (x : ℕ). node x m.target m.variable m.height) e
-      ∙ ap (λ (h : TryHandler). node n.outer h.target h.variable h.height) f
+      ap (λ (x : ℕ). node x m.target m.variable m.height m.cursors) e
+      ∙ ap (λ (h : TryHandler). node n.outer h.target h.variable h.height h.cursors) f
 
   first_same : (g h : TryHandler) (gs hs : List TryHandler)
       → ◌≡◌ {A = List TryHandler} (g ∷ gs) (h ∷ hs) → (g ≡ h) × (gs ≡ hs)

@@ -8,7 +8,7 @@ use Rattle.grain_program.specs.declared.verifier.refusals.Refusal.{Refusal}
 use Rattle.grain_program.specs.declared.verifier.refusals.Refusal.TheVariants.{Memory}
 use Rattle.grain_program.specs.View.{View}
 use Rattle.grain_program.specs.Decoding.{op_at}
-use Rattle.grain_program.specs.Effects.{flow_of, leads}
+use Rattle.grain_program.specs.Effects.{effect_of, leads_of}
 use Rattle.grain_program.specs.Starts.{Start}
 use Rattle.grain_program.specs.laws.Starts.{start_first, start_within}
 use Rattle.grain_program.specs.Rules.{IsSplit}
@@ -34,7 +34,7 @@ pub record Taking (p : View) (c : Chunk) (before f : AnalysisState) : Type 0 whe
   pub known : (a : ℕ) → In a f.waiting → (s : Shape) × (shape_at f.shapes a ≡ Some s)
   pub mine : (a : ℕ) → In a f.waiting → Start p.code c a
 
-module _ (p : View) (c : Chunk) (before : AnalysisState) (w : IsAnalysable p.code c before) where
+module _ (p : View) (c : Chunk) (before : AnalysisState) (w : IsAnalysable p c before) where
   within : (a : ℕ) → Start p.code c a → a < length p.code
   within a s = let x = start_within p.code c a s in omega (arith, x.1, w.inside)
 
@@ -97,10 +97,10 @@ module _ (p : View) (c : Chunk) (before : AnalysisState) (w : IsAnalysable p.cod
       long = ap length (sym shapes) ∙ so.long
 
       read : (r : Op × ℕ) × (op_at p.code a ≡ Some r) × ((b : ℕ)
-          → In b (leads (flow_of r.0) (a + r.1)) → Start p.code c b)
+          → In b (leads_of p r.0 (a + r.1)) → Start p.code c b)
       read = w.closed a start
 
-      pub is_ready : Ready p.code g.shapes a
+      pub is_ready : Ready p g.shapes a
       is_ready = record {
         small = w.small;
         room = long;
@@ -110,13 +110,12 @@ module _ (p : View) (c : Chunk) (before : AnalysisState) (w : IsAnalysable p.cod
         targets = λ r k. targets r k;
       } where
         targets : (r : Op × ℕ) → op_at p.code a ≡ Some r
-            → AllByRecursion (λ b. b < length p.code) (leads (flow_of r.0) (a + r.1))
+            → AllByRecursion (λ b. b < length p.code) (leads_of p r.0 (a + r.1))
         targets r k =
             let both : Some read.0 ≡ Some r = sym read.1 ∙ k in
             let same : read.0 ≡ r = cc in
-            subst (λ (x : Op × ℕ). AllByRecursion (λ b. b < length p.code) (leads (flow_of x.0)
-            (a + x.1))) same
-            (all_in (λ b. b < length p.code) (leads (flow_of read.0.0) (a + read.0.1))
+            subst (λ (x : Op × ℕ). AllByRecursion (λ b. b < length p.code) (leads_of p x.0 (a + x.1))) same
+            (all_in (λ b. b < length p.code) (leads_of p read.0.0 (a + read.0.1))
             (λ b i. within b (read.2 b i)))
 
       -- one step less is left
@@ -166,7 +165,7 @@ module _ (p : View) (c : Chunk) (before : AnalysisState) (w : IsAnalysable p.cod
 
         -- what the instruction reaches
         reached : List Arrival
-        reached = arrivals (flow_of read.0.0) (a + read.0.1) m.shape
+        reached = arrivals p (effect_of p read.0.0) (a + read.0.1) m.shape
 
         known' : (x : ℕ) → In x g.waiting ⊎ In x (addresses reached)
             → (s : Shape) × (shape_at h.shapes x ≡ Some s)
@@ -180,7 +179,7 @@ module _ (p : View) (c : Chunk) (before : AnalysisState) (w : IsAnalysable p.cod
         mine' : (x : ℕ) → In x g.waiting ⊎ In x (addresses reached) → Start p.code c x
         mine' x (inl i) = so.mine x (old x i)
         mine' x (inr i) =
-            where_it_reaches (Start p.code c) (flow_of read.0.0) (a + read.0.1) m.shape read.2 x i
+            where_it_reaches (Start p.code c) p (effect_of p read.0.0) (a + read.0.1) m.shape read.2 x i
 
       pub refused_on : (r : Refusal) → (r ≡ Memory) ⊎ (take_at p c.max_stack a g ≡ Err r)
           → (r ≡ Memory) ⊎ (analyse_chunk p c before ≡ Err r)
@@ -195,7 +194,7 @@ module _ (p : View) (c : Chunk) (before : AnalysisState) (w : IsAnalysable p.cod
 
 module _ (p : View) (chunks : List Chunk) (split : IsSplit p chunks) (i : ℕ) (c : Chunk)
     (g : slice_get chunks i ≡ Some c) (f : AnalysisState) where
-  pub analysable : length f.shapes ≡ length p.code → f.waiting ≡ [] → IsAnalysable p.code c f
+  pub analysable : length f.shapes ≡ length p.code → f.waiting ≡ [] → IsAnalysable p c f
   analysable long none = record {
     small = (is_tiled (length p.code) chunks split.laid).small;
     room = long;

@@ -1,5 +1,5 @@
 -- What the tests of the rules of single instructions mean.
-use Rattle.std.proofs.Common.{◌≡◌, ℕ, ◌+◌, ◌<◌, ◌≤◌, ◌⊎◌, ◌==◌, Bool, true, false, cond, List, length, Option, Some, None, refl, sym, ap, subst, ◌∙◌, inl, inr, arith}
+use Rattle.std.proofs.Common.{◌≡◌, ℕ, ◌+◌, ◌<◌, ◌≤◌, ◌⊎◌, ◌==◌, Bool, true, false, cond, List, [], ◌∷◌, length, Option, Some, None, refl, sym, ap, subst, ◌∙◌, inl, inr, arith}
 use Rattle.std.specs.Prelude.{slice_get, nat_lt}
 use Rattle.std.specs.List.{AllByRecursion}
 use Rattle.std.proofs.lemmas.Bool.{cases_lt, eqb-true, eqb-false}
@@ -21,10 +21,11 @@ use Rattle.grain_program.specs.Indices.{in_pools, IsNamed}
 use Rattle.grain_program.specs.Capabilities.{permits}
 use Rattle.grain_program.specs.Layout.{Tiled}
 use Rattle.grain_program.specs.Starts.{Start}
+use Rattle.grain_program.specs.Switches.{targets_if}
 use Rattle.grain_program.specs.laws.Starts.{start_within}
 use Rattle.grain_program.specs.Rules.{Lands, Whole, IndexRule, TargetRule, EndRule, CapabilityRule, Obeys, Splits, InstructionStart, Unread, Disobeys, address_of, rule_of, Precedes}
-use Rattle.grain_program.specs.Owners.{owner_at, Owned, lands, stays_in, rule_in, rule_at, IsFirstFound}
-use Rattle.grain_program.proofs.Decisions.{Decides, decides, lt_decides, every_decides, pools_decide, stays_decide, permits_decide}
+use Rattle.grain_program.specs.Owners.{owner_at, Owned, owns_all, lands, stays_in, rule_in, rule_at, IsFirstFound}
+use Rattle.grain_program.proofs.Decisions.{Decides, decides, lt_decides, both_decide, every_decides, pools_decide, stays_decide, permits_decide}
 use Rattle.grain_program.proofs.Breaches.{ByOp, FirstOf}
 use Rattle.grain_program.proofs.Tiles.{NoneEmpty}
 
@@ -181,16 +182,26 @@ module _ (p : View) (chunks : List Chunk) (t : Tiled (length p.code) chunks) whe
               eqb-false (owner_at owners x).end c.end e (ap (λ (w : Owner). w.end) (o.owned i c x
               (within i c g) g s))
 
+    all_owned : (i : ℕ) (c : Chunk) → slice_get chunks i ≡ Some c → c.entry < c.end
+        → (xs : List ℕ) → Decides (owns_all owners c.end xs) (AllByRecursion (Start p.code c) xs)
+    all_owned i c g full [] = tt
+    all_owned i c g full (x ∷ xs) =
+        both_decide (Start p.code c x) (AllByRecursion (Start p.code c) xs)
+        ((owner_at owners x).end == c.end) (owns_all owners c.end xs) (owns_decide i c g full x)
+        (all_owned i c g full xs)
+
     field_lands : (i : ℕ) (c : Chunk) → slice_get chunks i ≡ Some c → c.entry < c.end → (f : Field)
-        → Decides (lands owners c.end f) (Lands p c f)
+        → Decides (lands p owners c.end f) (Lands p c f)
     field_lands i c g full (field.Target x) = owns_decide i c g full x
+    field_lands i c g full (field.Switch k) =
+        all_owned i c g full (targets_if (slice_get p.switches k))
     field_lands i c g full _ = tt
 
     lands_decide : (i : ℕ) (c : Chunk) → slice_get chunks i ≡ Some c → c.entry < c.end → (o : Op)
-        → Decides (every (lands owners c.end) (fields_of o)) (AllByRecursion (Lands p c)
+        → Decides (every (lands p owners c.end) (fields_of o)) (AllByRecursion (Lands p c)
         (fields_of o))
     lands_decide i c g full o =
-        every_decides (Lands p c) (lands owners c.end) (field_lands i c g full) (fields_of o)
+        every_decides (Lands p c) (lands p owners c.end) (field_lands i c g full) (fields_of o)
 
     module _ (i : ℕ) (c : Chunk) (a : ℕ) (g : slice_get chunks i ≡ Some c) (s : Start p.code c a)
       where
@@ -213,7 +224,7 @@ module _ (p : View) (chunks : List Chunk) (t : Tiled (length p.code) chunks) whe
             (Some (refusal.FallsOff a))
 
         abbrev after_index : Op × ℕ → Option Refusal
-        after_index r = cond (every (lands owners c.end) (fields_of r.0)) (after_target r)
+        after_index r = cond (every (lands p owners c.end) (fields_of r.0)) (after_target r)
             (Some (refusal.JumpTarget a))
 
         abbrev after_whole : Op × ℕ → Option Refusal
@@ -263,7 +274,7 @@ module _ (p : View) (chunks : List Chunk) (t : Tiled (length p.code) chunks) whe
           second : (b : Bool) → Decides b (IndexRule p c a r)
               → Says (cond b (after_index r) (Some (refusal.PoolIndex a)))
           second true h =
-              third h (every (lands owners c.end) (fields_of r.0)) (lands_decide i c g full r.0)
+              third h (every (lands p owners c.end) (fields_of r.0)) (lands_decide i c g full r.0)
           second false h = record {
             there = refl;
             breach = (start_here, (r, w, h));

@@ -10,7 +10,7 @@ pub both_true : (a b : Bool) → (a && b) ≡ true → (a ≡ true) × (b ≡ tr
 both_true true b e = (refl, e)
 both_true false b e = absurd cc
 
-and_true : (a b : Bool) → a ≡ true → b ≡ true → (a && b) ≡ true
+pub and_true : (a b : Bool) → a ≡ true → b ≡ true → (a && b) ≡ true
 and_true a b e f = ap (λ (x : Bool). x && b) e ∙ f
 
 variables_same : (x y : Option ℕ) → same_variable x y ≡ true → x ≡ y
@@ -23,27 +23,36 @@ variable_self : (x : Option ℕ) → same_variable x x ≡ true
 variable_self None = refl
 variable_self (Some n) = eq-eqb n n refl
 
-abbrev handler : ℕ → Option ℕ → ℕ → TryHandler
-handler target variable height =
-    record { target = target; variable = variable; height = height }
+abbrev handler : ℕ → Option ℕ → ℕ → ℕ → TryHandler
+handler target variable height cursors =
+    record { target = target; variable = variable; height = height; cursors = cursors }
 
 handler_same : (g h : TryHandler) → same_handler g h ≡ true → g ≡ h
 handler_same g h e =
     let first =
-    both_true (g.target == h.target) (same_variable g.variable h.variable && (g.height == h.height))
-    e in
-    let rest = both_true (same_variable g.variable h.variable) (g.height == h.height) first.1 in
-    ap (λ (x : ℕ). handler x g.variable g.height) (eqb-true g.target h.target first.0)
-    ∙ ap (λ (x : Option ℕ). handler h.target x g.height)
+    both_true (g.target == h.target) (same_variable g.variable h.variable
+    && ((g.height == h.height) && (g.cursors == h.cursors))) e in
+    let rest =
+    both_true (same_variable g.variable h.variable) ((g.height == h.height)
+    && (g.cursors == h.cursors)) first.1 in
+    let last = both_true (g.height == h.height) (g.cursors == h.cursors) rest.1 in
+    ap (λ (x : ℕ). handler x g.variable g.height g.cursors) (eqb-true g.target h.target first.0)
+    ∙ ap (λ (x : Option ℕ). handler h.target x g.height g.cursors)
     (variables_same g.variable h.variable rest.0)
-    ∙ ap (λ (x : ℕ). handler h.target h.variable x) (eqb-true g.height h.height rest.1)
+    ∙ ap (λ (x : ℕ). handler h.target h.variable x g.cursors)
+    (eqb-true g.height h.height last.0)
+    ∙ ap (λ (x : ℕ). handler h.target h.variable h.height x)
+    (eqb-true g.cursors h.cursors last.1)
 
 handler_self : (h : TryHandler) → same_handler h h ≡ true
 handler_self h =
-    and_true (h.target == h.target) (same_variable h.variable h.variable && (h.height == h.height))
+    and_true (h.target == h.target) (same_variable h.variable h.variable
+    && ((h.height == h.height) && (h.cursors == h.cursors)))
     (eq-eqb h.target h.target refl)
-    (and_true (same_variable h.variable h.variable) (h.height == h.height)
-    (variable_self h.variable) (eq-eqb h.height h.height refl))
+    (and_true (same_variable h.variable h.variable) ((h.height == h.height)
+    && (h.cursors == h.cursors)) (variable_self h.variable)
+    (and_true (h.height == h.height) (h.cursors == h.cursors) (eq-eqb h.height h.height refl)
+    (eq-eqb h.cursors h.cursors refl)))
 
 -- lists that pass the test are one
 pub handlers_same : (gs hs : List TryHandler) → same_handlers gs hs ≡ true → gs ≡ hs
@@ -61,12 +70,13 @@ handlers_self [] = refl
 handlers_self (h ∷ hs) =
     and_true (same_handler h h) (same_handlers hs hs) (handler_self h) (handlers_self hs)
 
--- where the numbers of operands agree, the handlers decide
-pub clash_even : (a : ℕ) (s t : Shape) (b : Bool) → s.height ≡ t.height
+-- where the numbers of operands and of cursors agree, the handlers decide
+pub clash_even : (a : ℕ) (s t : Shape) (b : Bool) → s.height ≡ t.height → s.cursors ≡ t.cursors
     → same_handlers s.handlers t.handlers ≡ b
     → clash a s t ≡ cond b None (Some (refusal.HandlerDisagrees a))
-clash_even a s t b e f =
+clash_even a s t b e g f =
     ap (λ (x : Bool). cond x (cond (same_handlers s.handlers t.handlers) None
     (Some (refusal.HandlerDisagrees a))) (Some (refusal.HeightDisagrees a)))
-    (eq-eqb s.height t.height e)
+    (and_true (s.height == t.height) (s.cursors == t.cursors) (eq-eqb s.height t.height e)
+    (eq-eqb s.cursors t.cursors g))
     ∙ ap (λ (x : Bool). cond x None (Some (refusal.HandlerDisagrees a))) f

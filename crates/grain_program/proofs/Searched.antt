@@ -11,8 +11,8 @@ use Rattle.grain_program.specs.declared.verifier.shapes.NumberedShape.{NumberedS
 use Rattle.grain_program.specs.declared.verifier.refusals.Refusal.{Refusal}
 use Rattle.grain_program.specs.Decoding.{op_at}
 use Rattle.grain_program.specs.View.{View}
-use Rattle.grain_program.specs.Effects.{effect_of, flow_of}
-use Rattle.grain_program.specs.Shapes.{TryHandler, Shape, arrivals, shape_after, shape_at}
+use Rattle.grain_program.specs.Effects.{effect_of}
+use Rattle.grain_program.specs.Shapes.{TryHandler, Shape, shape, arrivals, shape_after, shape_at}
 use Rattle.grain_program.specs.HandlerLists.{Grows}
 use Rattle.grain_program.specs.Numbered.{numbered_at, shape_of, known_of, AreNumbered, Search, state_of}
 use Rattle.grain_program.specs.Typing.{AnalysisState, ◌>>=◌, nothing_seen, with_lowest, meets, arrive, arrive_all, take_op, take_at, Gives}
@@ -55,11 +55,8 @@ module _ (ls : List (List TryHandler)) where
     numbered_still (Some s ∷ shapes) h =
         (omega (arith, h.0, g.longer), numbered_still shapes h.1)
 
-    abbrev of_handlers : ℕ → List TryHandler → Shape
-    of_handlers height hs = record { height = height; handlers = hs }
-
     shape_still : (s : NumberedShape) → s.list ≤ length ls → shape_of more s ≡ shape_of ls s
-    shape_still s le = ap (of_handlers s.height) (g.keeps s.list le)
+    shape_still s le = ap (shape s.height s.cursors) (g.keeps s.list le)
 
     known_still : (shapes : List (Option NumberedShape)) → AreNumbered ls shapes
         → map (known_of more) shapes ≡ map (known_of ls) shapes
@@ -83,6 +80,16 @@ state_still : (shapes : List (Option NumberedShape)) (waiting : List ℕ)
     ≡ state_of (record { shapes = shapes; waiting = waiting; lists = ls })
 state_still shapes waiting ls more g h =
     ap (state waiting) (known_still ls more g shapes h)
+
+-- a fact of the state, with a longer table
+pub still_so : (P : AnalysisState → Type 0) (f : Search) (shapes : List (Option NumberedShape))
+    (waiting : List ℕ) (ls more : List (List TryHandler))
+    → ◌≡◌ {A = Search} (record { shapes = shapes; waiting = waiting; lists = ls }) f
+    → Grows ls more → AreNumbered ls shapes → P (state_of f)
+    → P (state_of (record { shapes = shapes; waiting = waiting; lists = more }))
+still_so P f shapes waiting ls more same g h fact =
+    subst P (sym (state_still shapes waiting ls more g h))
+    (subst (λ (x : Search). P (state_of x)) (sym same) fact)
 
 -- ---- what is known at an address
 
@@ -159,7 +166,7 @@ module _ (p : View) (max a : ℕ) (f : Search) (r : Op × ℕ) (s : NumberedShap
     (is : op_at p.code a ≡ Some r) (known : numbered_at f.shapes a ≡ Some s) where
   taking : take_at p max a (state_of f)
       ≡ (shape_after max a (effect_of p r.0) (shape_of f.lists s) >>= λ t. arrive_all
-      (arrivals (flow_of r.0) (a + r.1) t) (state_of f))
+      (arrivals p (effect_of p r.0) (a + r.1) t) (state_of f))
   taking = ap (λ (o : Option (Op × ℕ)). take_op p max a (state_of f) o (shape_at (state_of f).shapes
       a)) is
       ∙ ap (λ (o : Option Shape). take_op p max a (state_of f) (Some r) o) (known_at f a
@@ -168,11 +175,11 @@ module _ (p : View) (max a : ℕ) (f : Search) (r : Op × ℕ) (s : NumberedShap
   -- the shape after it comes to where it leads
   stepped_on : (g : AnalysisState) (t : Shape) (o : Result (Unit {0}) Refusal)
       → shape_after max a (effect_of p r.0) (shape_of f.lists s) ≡ Ok t
-      → Gives g o (arrive_all (arrivals (flow_of r.0) (a + r.1) t) (state_of f))
+      → Gives g o (arrive_all (arrivals p (effect_of p r.0) (a + r.1) t) (state_of f))
       → Gives g o (take_at p max a (state_of f))
   stepped_on g t o e h =
       subst (Gives g o) (sym (taking ∙ ap (λ (x : Result Shape Refusal). x >>= λ t. arrive_all
-      (arrivals (flow_of r.0) (a + r.1) t) (state_of f)) e)) h
+      (arrivals p (effect_of p r.0) (a + r.1) t) (state_of f)) e)) h
 
 -- the same, of what the code has before and after
 pub taken_on : (p : View) (max a : ℕ) (f : Search) (shapes : List (Option NumberedShape))
@@ -182,7 +189,7 @@ pub taken_on : (p : View) (max a : ℕ) (f : Search) (shapes : List (Option Numb
     → (s : NumberedShape) → numbered_at shapes a ≡ Some s
     → (e : Effect) → e ≡ effect_of p r.0 → (g : AnalysisState) (t : Shape)
     (o : Result (Unit {0}) Refusal) → shape_after max a e (shape_of ls s) ≡ Ok t
-    → Gives g o (arrive_all (arrivals e.flow (a + r.1) t) (state_of (record {
+    → Gives g o (arrive_all (arrivals p e (a + r.1) t) (state_of (record {
       shapes = shapes;
       waiting = waiting;
       lists = more;
@@ -192,7 +199,7 @@ taken_on p max a f shapes waiting ls more same numbers grows r is s known e row 
     subst (λ (x : Search). Gives g o (take_at p max a (state_of x))) same
     (stepped_on p max a (search_of ls shapes waiting) r s is known g t o
     (subst (λ (x : Effect). shape_after max a x (shape_of ls s) ≡ Ok t) row k)
-    (subst (λ (x : Effect). Gives g o (arrive_all (arrivals x.flow (a + r.1) t) (state_of (search_of ls
+    (subst (λ (x : Effect). Gives g o (arrive_all (arrivals p x (a + r.1) t) (state_of (search_of ls
     shapes waiting)))) row
-    (subst (λ (x : AnalysisState). Gives g o (arrive_all (arrivals e.flow (a + r.1) t) x))
+    (subst (λ (x : AnalysisState). Gives g o (arrive_all (arrivals p e (a + r.1) t) x))
     (state_still shapes waiting ls more grows numbers) h)))

@@ -6,14 +6,14 @@ use Rattle.grain_program.specs.declared.code.parts.Chunk.{Chunk}
 use Rattle.grain_program.specs.declared.verifier.refusals.Refusal.{Refusal}
 use Rattle.grain_program.specs.View.{View}
 use Rattle.grain_program.specs.Decoding.{op_at}
-use Rattle.grain_program.specs.Effects.{effect_of, flow_of, leads}
+use Rattle.grain_program.specs.Effects.{effect_of, leads_of}
 use Rattle.grain_program.specs.Layout.{layout_fault, Tiled}
 use Rattle.grain_program.specs.Starts.{Start}
 use Rattle.grain_program.specs.laws.Starts.{start_first, start_next, start_within}
 use Rattle.grain_program.specs.Rules.{Splits, InstructionStart}
 use Rattle.grain_program.specs.Shapes.{Shape, bare, Arrival, arrival, arrivals, shape_at}
 use Rattle.grain_program.specs.Typing.{In, Agrees, Typing, AnalysisState, ◌>>=◌, arrive, take_at, take_lowest, take_all, analyse_chunk}
-use Rattle.grain_program.specs.laws.TypedAt.{leads_to_start}
+use Rattle.grain_program.specs.laws.Leads.{leads_to_start}
 use Rattle.grain_program.proofs.Tiles.{is_tiled}
 use Rattle.grain_program.proofs.Meaning.{same_chunk}
 use Rattle.grain_program.proofs.Cells.{free}
@@ -47,7 +47,7 @@ module _ (p : View) (chunks : List Chunk) (laid : layout_fault (length p.code) c
   -- an instruction of the chunk is read, and leads to instructions of the chunk
   pub closed : (i : ℕ) (c : Chunk) → slice_get chunks i ≡ Some c → (a : ℕ) → Start p.code c a
       → (r : Op × ℕ) × (op_at p.code a ≡ Some r) × ((b : ℕ)
-      → In b (leads (flow_of r.0) (a + r.1)) → Start p.code c b)
+      → In b (leads_of p r.0 (a + r.1)) → Start p.code c b)
   closed i c g a s =
       let o = w.obeys i c a g s in (
         o.read,
@@ -94,7 +94,7 @@ module _ (p : View) (chunks : List Chunk) (laid : layout_fault (length p.code) c
         start = h.mine a waits
 
         read : (r : Op × ℕ) × (op_at p.code a ≡ Some r) × ((b : ℕ)
-            → In b (leads (flow_of r.0) (a + r.1)) → Start p.code c b)
+            → In b (leads_of p r.0 (a + r.1)) → Start p.code c b)
         read = closed i c g a start
 
         known : (t : Shape) × (shape_at f.shapes a ≡ Some t)
@@ -150,16 +150,16 @@ module _ (p : View) (chunks : List Chunk) (laid : layout_fault (length p.code) c
               read.1 known.1 h' (λ b j. within f h.sound b (read.2 b j)) ok
 
           -- what the instruction reaches are instructions of the chunk
-          goes_to : (b : ℕ) → In b (addresses (arrivals (flow_of read.0.0) (a + read.0.1) m.shape))
+          goes_to : (b : ℕ) → In b (addresses (arrivals p (effect_of p read.0.0) (a + read.0.1) m.shape))
               → Start p.code c b
-          goes_to = where_it_reaches (Start p.code c) (flow_of read.0.0) (a + read.0.1) m.shape read.2
+          goes_to = where_it_reaches (Start p.code c) p (effect_of p read.0.0) (a + read.0.1) m.shape read.2
 
           all : SoundBut p chunks (λ x. x ≡ a) h'
           all = spread_sound p chunks (λ x. x ≡ a) (record {
             shapes = f.shapes;
             waiting =
                 rest;
-          }) h' (arrivals (flow_of read.0.0) (a + read.0.1) m.shape)
+          }) h' (arrivals p (effect_of p read.0.0) (a + read.0.1) m.shape)
               (λ b j. start_here b (goes_to b j)) rest_sound m.spread
 
           -- the address that was taken is done
@@ -169,17 +169,18 @@ module _ (p : View) (chunks : List Chunk) (laid : layout_fault (length p.code) c
               let same : read.0 ≡ r = cc in
               let chunk : c ≡ d = same_chunk p chunks tiles i j c d a g k start s in
               let after = m.shape_after.is in
-              subst (λ (x : Chunk). Agrees (shape_at h'.shapes) x.max_stack a r.1 (effect_of p r.0)
+              subst (λ (x : Chunk). Agrees p (shape_at h'.shapes) x.max_stack a r.1 (effect_of p r.0)
               known.0) chunk
-              (subst (λ (x : Op × ℕ). Agrees (shape_at h'.shapes) c.max_stack a x.1 (effect_of p x.0)
+              (subst (λ (x : Op × ℕ). Agrees p (shape_at h'.shapes) c.max_stack a x.1 (effect_of p x.0)
               known.0) same
               (record {
                 enough = m.shape_after.enough;
+                cursor = m.shape_after.cursor;
                 handler = m.shape_after.handler;
                 above = m.shape_after.above;
                 room = m.shape_after.room;
                 arrives = subst (λ (t : Shape). (y : Arrival)
-                    → In y (arrivals (flow_of read.0.0) (a + read.0.1) t)
+                    → In y (arrivals p (effect_of p read.0.0) (a + read.0.1) t)
                     → shape_at h'.shapes y.address ≡ Some y.shape) (sym after) m.spread.there;
               }))
 
@@ -208,7 +209,7 @@ module _ (p : View) (chunks : List Chunk) (laid : layout_fault (length p.code) c
                 (subst (λ (y : Shape). Done p chunks h' a y) shape done)))
 
             mine : (x : ℕ) → In x rest
-                ⊎ In x (addresses (arrivals (flow_of read.0.0) (a + read.0.1) m.shape))
+                ⊎ In x (addresses (arrivals p (effect_of p read.0.0) (a + read.0.1) m.shape))
                 → Start p.code c x
             mine x (inl j) = h.mine x (subst (In x) (sym e) (inr j))
             mine x (inr j) = goes_to x j

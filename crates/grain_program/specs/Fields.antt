@@ -20,6 +20,7 @@ size_of (field.Constant n) = two
 size_of (field.Name n) = two
 size_of (field.Assignment n) = two
 size_of (field.Chain n) = two
+size_of (field.Switch n) = two
 size_of (field.Token n) = two
 size_of (field.Slot n) = two
 size_of (field.Target n) = four
@@ -32,6 +33,7 @@ number_of (field.Constant n) = n
 number_of (field.Name n) = n
 number_of (field.Assignment n) = n
 number_of (field.Chain n) = n
+number_of (field.Switch n) = n
 number_of (field.Token n) = n
 number_of (field.Slot n) = n
 number_of (field.Target n) = n
@@ -60,6 +62,7 @@ targets_of (field.Constant n ∷ fs) = targets_of fs
 targets_of (field.Name n ∷ fs) = targets_of fs
 targets_of (field.Assignment n ∷ fs) = targets_of fs
 targets_of (field.Chain n ∷ fs) = targets_of fs
+targets_of (field.Switch n ∷ fs) = targets_of fs
 targets_of (field.Token n ∷ fs) = targets_of fs
 targets_of (field.Slot n ∷ fs) = targets_of fs
 targets_of (field.Target n ∷ fs) = n ∷ targets_of fs
@@ -73,6 +76,7 @@ name_in (field.Constant n ∷ fs) = name_in fs
 name_in (field.Name n ∷ fs) = Some n
 name_in (field.Assignment n ∷ fs) = name_in fs
 name_in (field.Chain n ∷ fs) = name_in fs
+name_in (field.Switch n ∷ fs) = name_in fs
 name_in (field.Token n ∷ fs) = name_in fs
 name_in (field.Slot n ∷ fs) = name_in fs
 name_in (field.Target n ∷ fs) = name_in fs
@@ -86,11 +90,26 @@ chain_in (field.Constant n ∷ fs) = chain_in fs
 chain_in (field.Name n ∷ fs) = chain_in fs
 chain_in (field.Assignment n ∷ fs) = chain_in fs
 chain_in (field.Chain n ∷ fs) = Some n
+chain_in (field.Switch n ∷ fs) = chain_in fs
 chain_in (field.Token n ∷ fs) = chain_in fs
 chain_in (field.Slot n ∷ fs) = chain_in fs
 chain_in (field.Target n ∷ fs) = chain_in fs
 chain_in (field.Count n ∷ fs) = chain_in fs
 chain_in (field.Number n ∷ fs) = chain_in fs
+
+-- the first switch among the operands, if there is one
+abbrev pub switch_in : List Field → Option ℕ
+switch_in [] = None
+switch_in (field.Constant n ∷ fs) = switch_in fs
+switch_in (field.Name n ∷ fs) = switch_in fs
+switch_in (field.Assignment n ∷ fs) = switch_in fs
+switch_in (field.Chain n ∷ fs) = switch_in fs
+switch_in (field.Switch n ∷ fs) = Some n
+switch_in (field.Token n ∷ fs) = switch_in fs
+switch_in (field.Slot n ∷ fs) = switch_in fs
+switch_in (field.Target n ∷ fs) = switch_in fs
+switch_in (field.Count n ∷ fs) = switch_in fs
+switch_in (field.Number n ∷ fs) = switch_in fs
 
 -- each operand passes the test
 abbrev pub every : (Field → Bool) → List Field → Bool

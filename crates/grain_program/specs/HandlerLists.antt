@@ -20,7 +20,12 @@ pub record Grows (before now : List (List TryHandler)) : Type 0 where
 
 -- the node's handler
 abbrev pub handler_of : Node → TryHandler
-handler_of n = record { target = n.target; variable = n.variable; height = n.height }
+handler_of n = record {
+  target = n.target;
+  variable = n.variable;
+  height = n.height;
+  cursors = n.cursors;
+}
 
 -- the node's handler in front of those around it
 abbrev pub node_list : List (List TryHandler) → Node → List TryHandler
@@ -35,7 +40,8 @@ lists_from lists (n ∷ ns) = lists_from (lists ++ node_list lists n ∷ []) ns
 abbrev pub node_cmp : Node → Node → Ordering
 node_cmp m n =
     ordering_then (nat_cmp m.outer n.outer) (ordering_then (nat_cmp m.target n.target)
-    (ordering_then (option_cmp nat_cmp m.variable n.variable) (nat_cmp m.height n.height)))
+    (ordering_then (option_cmp nat_cmp m.variable n.variable)
+    (ordering_then (nat_cmp m.height n.height) (nat_cmp m.cursors n.cursors))))
 
 -- the list around each node's handler has a lower number than the node's own, and the map has the
 -- number of each node's list, and no other

@@ -4,6 +4,8 @@
 use Rattle.std.specs.Prelude.{ℕ, ◌+◌, List, [], ◌∷◌, map, codes, slice_index}
 use Rattle.grain_program.specs.declared.code.instruction_set.Op.{Op}
 use Rattle.grain_program.specs.declared.code.instruction_set.Op.TheVariants as op
+use Rattle.grain_program.specs.declared.code.effects.Looping.{Looping}
+use Rattle.grain_program.specs.declared.code.effects.Looping.TheVariants as looping
 use Rattle.grain_program.specs.declared.code.fields.Field.{Field}
 use Rattle.grain_program.specs.declared.code.fields.Field.TheVariants as field
 
@@ -15,6 +17,8 @@ pub data Transfer : Type 0 where
   jumps : Transfer
   -- to the instruction's target or to the next instruction
   branches : Transfer
+  -- to a target of the instruction's switch
+  switches : Transfer
   -- out of the chunk
   ends : Transfer
 
@@ -38,11 +42,12 @@ pub record Row : Type 0 where
   pub takes : ℕ
   pub gives : ℕ
   pub transfer : Transfer
+  pub looping : Looping
   pub handlers : HandlerUse
   -- the bit of the capability that it needs, or no bit
   pub capability : ℕ
 
--- an instruction that keeps the handlers
+-- an instruction that keeps the cursors and the handlers
 abbrev pub entry : List ℕ → ℕ → List Field → ℕ → ℕ → Transfer → ℕ → Row
 entry word tag fields takes gives transfer capability = record {
   word = word;
@@ -51,6 +56,7 @@ entry word tag fields takes gives transfer capability = record {
   takes = takes;
   gives = gives;
   transfer = transfer;
+  looping = looping.Keep;
   handlers = keeps_handlers;
   capability = capability;
 }
@@ -68,6 +74,11 @@ closures = 4
 abbrev pub plain : List ℕ → ℕ → List Field → ℕ → ℕ → Transfer → Row
 plain word tag fields takes gives transfer =
     entry word tag fields takes gives transfer no_capability
+
+-- an instruction that does this to the cursors
+abbrev pub on_cursors : List ℕ → ℕ → List Field → ℕ → ℕ → Transfer → Looping → Row
+on_cursors word tag fields takes gives transfer looping =
+    record (plain word tag fields takes gives transfer) { looping = looping }
 
 -- an instruction on handlers
 abbrev pub handling : List ℕ → ℕ → List Field → Transfer → HandlerUse → Row
@@ -107,6 +118,7 @@ row (op.Jump t) = plain (codes "jump") 0x1d (field.Target t ∷ []) 0 0 jumps
 row (op.JumpIfFalse t) = plain (codes "jump_if_false") 0x1e (field.Target t ∷ []) 1 0 branches
 row (op.JumpIfTrue t) = plain (codes "jump_if_true") 0x1f (field.Target t ∷ []) 1 0 branches
 row (op.SkipIfNotUnit t) = plain (codes "skip_if_not_unit") 0x20 (field.Target t ∷ []) 1 1 branches
+row (op.Switch k) = plain (codes "switch") 0x21 (field.Switch k ∷ []) 1 1 switches
 row (op.Call n k) =
     entry (codes "call") 0x22 (field.Name n ∷ field.Count k ∷ []) k 1 falls_through function_calls
 row (op.CallOp n k o) =
@@ -138,6 +150,13 @@ row (op.PushHandlerVar t n) =
     handling (codes "push_handler_var") 0x3d (field.Target t ∷ field.Name n ∷ []) branches
     pushes_handler
 row op.PopHandler = handling (codes "pop_handler") 0x3e [] falls_through pops_handler
+row op.IterInit = on_cursors (codes "iter_init") 0x3f [] 1 0 falls_through looping.Begin
+row op.IterDrop = on_cursors (codes "iter_drop") 0x40 [] 0 0 falls_through looping.Leave
+row (op.IterNext t) =
+    on_cursors (codes "iter_next") 0x41 (field.Target t ∷ []) 0 1 branches looping.Advance
+row (op.IterNextIndexed t s) =
+    let fields : List Field = field.Target t ∷ field.Slot s ∷ [] in
+    on_cursors (codes "iter_next_indexed") 0x42 fields 0 1 branches looping.Advance
 row op.Throw = plain (codes "throw") 0x49 [] 1 0 ends
 row op.Return = plain (codes "return") 0x4a [] 0 0 ends
 
@@ -180,6 +199,7 @@ instructions =
     (λ n. op.JumpIfFalse (first n)) ∷
     (λ n. op.JumpIfTrue (first n)) ∷
     (λ n. op.SkipIfNotUnit (first n)) ∷
+    (λ n. op.Switch (first n)) ∷
     (λ n. op.Call (first n) (second n)) ∷
     (λ n. op.CallOp (first n) (second n) (third n)) ∷
     (λ n. op.MakeClosure (first n)) ∷
@@ -196,6 +216,10 @@ instructions =
     (λ n. op.PushHandler (first n)) ∷
     (λ n. op.PushHandlerVar (first n) (second n)) ∷
     (λ n. op.PopHandler) ∷
+    (λ n. op.IterInit) ∷
+    (λ n. op.IterDrop) ∷
+    (λ n. op.IterNext (first n)) ∷
+    (λ n. op.IterNextIndexed (first n) (second n)) ∷
     (λ n. op.Throw) ∷
     (λ n. op.Return) ∷
     []

@@ -3,6 +3,7 @@
 -- verified of it.
 pub mod Bits
 pub mod View
+pub mod Switches
 pub mod Chains
 pub mod InstructionSet
 pub mod Fields
@@ -28,5 +29,6 @@ pub mod Owners
 pub mod Waiting
 pub mod HandlerLists
 pub mod Numbered
+pub mod Reached
 -- lemmas, which no contract names
 pub mod laws

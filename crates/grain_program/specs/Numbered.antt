@@ -10,13 +10,14 @@ use Rattle.grain_program.specs.HandlerLists.{list_at}
 use Rattle.grain_program.specs.Typing.{AnalysisState}
 
 -- the shape of these numbers, of which the first is 0 where none is known
-abbrev pub numbered_shape : ℕ → ℕ → Option NumberedShape
-numbered_shape zero list = None
-numbered_shape (suc height) list = Some (record { height = height; list = list })
+abbrev pub numbered_shape : ℕ → ℕ → ℕ → Option NumberedShape
+numbered_shape zero cursors list = None
+numbered_shape (suc height) cursors list =
+    Some (record { height = height; cursors = cursors; list = list })
 
 -- the shape in a place of the table
 abbrev pub shape_in : Cell → Option NumberedShape
-shape_in c = numbered_shape c.height c.list
+shape_in c = numbered_shape c.height c.cursors c.list
 
 -- the shape that is known at the address
 abbrev pub numbered_at : List (Option NumberedShape) → ℕ → Option NumberedShape
@@ -24,7 +25,8 @@ numbered_at shapes a = slice_index_or shapes a None
 
 -- the shape itself
 abbrev pub shape_of : List (List TryHandler) → NumberedShape → Shape
-shape_of lists s = record { height = s.height; handlers = list_at lists s.list }
+shape_of lists s =
+    record { height = s.height; cursors = s.cursors; handlers = list_at lists s.list }
 
 abbrev pub known_of : List (List TryHandler) → Option NumberedShape → Option Shape
 known_of lists None = None

@@ -1,6 +1,6 @@
 -- The table of instruction starts, and the tests of the rules of single instructions by it; the
 -- tests of empty chunks and of functions' names.
-use Rattle.std.specs.Prelude.{ℕ, ◌≡◌, ◌<◌, ◌+◌, ◌⊎◌, ◌==◌, nat_lt, Bool, true, List, [], ◌∷◌, length, slice_get, slice_index_or, Option, Some, None, if◌then◌else◌}
+use Rattle.std.specs.Prelude.{ℕ, ◌≡◌, ◌<◌, ◌+◌, ◌⊎◌, ◌==◌, ◌&&◌, nat_lt, Bool, true, List, [], ◌∷◌, length, slice_get, slice_index_or, Option, Some, None, if◌then◌else◌}
 use Rattle.grain_program.specs.declared.code.instruction_set.Op.{Op}
 use Rattle.grain_program.specs.declared.code.parts.Chunk.{Chunk}
 use Rattle.grain_program.specs.declared.code.functions.Function.{Function}
@@ -11,6 +11,7 @@ use Rattle.grain_program.specs.declared.code.effects.Flow.{Flow}
 use Rattle.grain_program.specs.declared.code.effects.Flow.TheVariants as flow
 use Rattle.grain_program.specs.declared.code.fields.Field.{Field}
 use Rattle.grain_program.specs.declared.code.fields.Field.TheVariants as field
+use Rattle.grain_program.specs.declared.code.switches.Switch.{Switch}
 use Rattle.grain_program.specs.View.{View}
 use Rattle.grain_program.specs.Fields.{every}
 use Rattle.grain_program.specs.InstructionSet.{fields_of}
@@ -19,6 +20,7 @@ use Rattle.grain_program.specs.Effects.{flow_of}
 use Rattle.grain_program.specs.Indices.{in_pools, is_named}
 use Rattle.grain_program.specs.Capabilities.{permits}
 use Rattle.grain_program.specs.Starts.{Start}
+use Rattle.grain_program.specs.Switches.{case_targets, range_targets, targets_if}
 
 -- what stands where no instruction begins
 abbrev pub no_owner : Owner
@@ -54,23 +56,39 @@ IsMarked code c before now =
     → (Start code c a × (owner_at now a ≡ owner_of c))
     ⊎ ((Start code c a → ⊥) × (owner_at now a ≡ owner_at before a))
 
--- an operand that is an address names an instruction that the chunk of this end owns
-abbrev pub lands : List Owner → ℕ → Field → Bool
-lands owners end (field.Constant n) = true
-lands owners end (field.Name n) = true
-lands owners end (field.Assignment n) = true
-lands owners end (field.Chain n) = true
-lands owners end (field.Token n) = true
-lands owners end (field.Slot n) = true
-lands owners end (field.Target n) = (owner_at owners n).end == end
-lands owners end (field.Count n) = true
-lands owners end (field.Number n) = true
+-- the chunk of this end owns an instruction at each of the addresses
+abbrev pub owns_all : List Owner → ℕ → List ℕ → Bool
+owns_all owners end [] = true
+owns_all owners end (a ∷ rest) = ((owner_at owners a).end == end) && owns_all owners end rest
+
+-- the end of the one chunk that owns an instruction at each target of the switch, or 0 if there is no
+-- such chunk
+abbrev pub home_of : List Owner → Switch → ℕ
+home_of owners s =
+    if owns_all owners (owner_at owners s.default).end (case_targets s.cases)
+    && owns_all owners (owner_at owners s.default).end (range_targets s.ranges)
+    then (owner_at owners s.default).end else 0
+
+-- an operand that is an address names an instruction that the chunk of this end owns, and so does each
+-- target of an operand that is a switch
+abbrev pub lands : View → List Owner → ℕ → Field → Bool
+lands p owners end (field.Constant n) = true
+lands p owners end (field.Name n) = true
+lands p owners end (field.Assignment n) = true
+lands p owners end (field.Chain n) = true
+lands p owners end (field.Switch n) = owns_all owners end (targets_if (slice_get p.switches n))
+lands p owners end (field.Token n) = true
+lands p owners end (field.Slot n) = true
+lands p owners end (field.Target n) = (owner_at owners n).end == end
+lands p owners end (field.Count n) = true
+lands p owners end (field.Number n) = true
 
 -- what goes on to the next address stays before the end
 abbrev pub stays_in : ℕ → ℕ → Flow → Bool
 stays_in end next flow.Next = nat_lt next end
 stays_in end next (flow.Jump t) = true
 stays_in end next (flow.Branch t) = nat_lt next end
+stays_in end next (flow.Switch k) = true
 stays_in end next flow.End = true
 
 -- the first rule that the instruction read at the address breaks, in a chunk of this end
@@ -79,7 +97,7 @@ rule_in p owners end a None = Some (refusal.Undecodable a)
 rule_in p owners end a (Some r) =
     if nat_lt end (a + r.1) then Some (refusal.Undecodable a)
     else if in_pools p r.0 then
-    (if every (lands owners end) (fields_of r.0) then
+    (if every (lands p owners end) (fields_of r.0) then
     (if stays_in end (a + r.1) (flow_of r.0) then
     (if permits p.caps r.0 then None else Some (refusal.Capability a))
     else Some (refusal.FallsOff a))

@@ -20,13 +20,16 @@ use Rattle.grain_program.specs.Capabilities.{Permits}
 use Rattle.grain_program.specs.Layout.{layout_fault}
 use Rattle.grain_program.specs.Starts.{Start}
 use Rattle.grain_program.specs.Chains.{IsFirstBadChain}
+use Rattle.grain_program.specs.Switches.{targets_if}
 
--- an operand that is an address names an instruction of the same chunk
+-- an operand that is an address names an instruction of the same chunk, and so does each target of
+-- an operand that is a switch
 abbrev pub Lands : View → Chunk → Field → Type 0
 Lands p c (field.Constant n) = Unit {0}
 Lands p c (field.Name n) = Unit {0}
 Lands p c (field.Assignment n) = Unit {0}
 Lands p c (field.Chain n) = Unit {0}
+Lands p c (field.Switch n) = AllByRecursion (Start p.code c) (targets_if (slice_get p.switches n))
 Lands p c (field.Token n) = Unit {0}
 Lands p c (field.Slot n) = Unit {0}
 Lands p c (field.Target n) = Start p.code c n
@@ -38,6 +41,7 @@ abbrev pub StaysIn : Chunk → ℕ → Flow → Type 0
 StaysIn c next flow.Next = next < c.end
 StaysIn c next (flow.Jump t) = Unit {0}
 StaysIn c next (flow.Branch t) = next < c.end
+StaysIn c next (flow.Switch k) = Unit {0}
 StaysIn c next flow.End = Unit {0}
 
 -- the instruction at the address, which does not pass its chunk's end

@@ -12,37 +12,39 @@ use Rattle.grain_program.specs.declared.verifier.refusals.Refusal.{Refusal}
 use Rattle.grain_program.specs.declared.verifier.refusals.Refusal.TheVariants as refusal
 use Rattle.grain_program.specs.View.{View}
 use Rattle.grain_program.specs.Decoding.{op_at}
-use Rattle.grain_program.specs.Effects.{effect_of, flow_of, leads}
+use Rattle.grain_program.specs.Effects.{cursors_taken, effect_of, leads_of}
 use Rattle.grain_program.specs.Layout.{chunks_in, layout_fault, most_code}
 use Rattle.grain_program.specs.Starts.{Start}
 use Rattle.grain_program.specs.Rules.{Splits, IsSplit, RefusedBeforeChains, RefusedForChain}
 use Rattle.grain_program.specs.Chains.{AreGoodChains}
-use Rattle.grain_program.specs.Shapes.{Shape, bare, height_after, after, Arrival, arrivals, lacks_handler, is_under, shape_after, clash, shape_at}
+use Rattle.grain_program.specs.Shapes.{Shape, bare, height_after, after, Arrival, arrivals, lacks_handler, goes_under, shape_after, clash, shape_at}
 
 -- the value is in the list
 abbrev pub In : {A : Type 0} → A → List A → Type 0
 In a [] = ⊥
 In a (x ∷ xs) = (a ≡ x) ⊎ In a xs
 
--- An instruction of this effect and width has enough operands in this shape and leaves no more than
--- max. It takes away no handler where there is none, and no operand that was there at the push of
--- the innermost handler. Wherever it leads, the typing has the shape with which it comes there.
-pub record Agrees (typing : ℕ → Option Shape) (max a width : ℕ) (e : Effect) (s : Shape) : Type 0
-  where
-    pub enough : e.takes ≤ s.height
-    pub handler : lacks_handler e.handling s.handlers ≡ false
-    pub above : is_under (s.height - e.takes) s.handlers ≡ false
-    pub room : height_after e s ≤ max
-    pub arrives : (x : Arrival) → In x (arrivals e.flow (a + width) (after e s))
-        → typing x.address ≡ Some x.shape
+-- An instruction of this effect and width has enough operands and cursors in this shape and leaves no
+-- more operands than max. It takes away no handler where there is none, and no operand and no cursor
+-- that was there at the push of the innermost handler. Wherever it leads in the program, the typing
+-- has the shape with which it comes there.
+pub record Agrees (p : View) (typing : ℕ → Option Shape) (max a width : ℕ) (e : Effect)
+    (s : Shape) : Type 0 where
+  pub enough : e.takes ≤ s.height
+  pub cursor : cursors_taken e.looping ≤ s.cursors
+  pub handler : lacks_handler e.handling s.handlers ≡ false
+  pub above : goes_under e s ≡ false
+  pub room : height_after e s ≤ max
+  pub arrives : (x : Arrival) → In x (arrivals p e (a + width) (after e s))
+      → typing x.address ≡ Some x.shape
 
--- each chunk is entered without operands, and each instruction that is reached agrees with the
+-- each chunk is entered without operands and cursors, and each instruction that is reached agrees with the
 -- typing
 pub record Typing (p : View) (chunks : List Chunk) (typing : ℕ → Option Shape) : Type 0 where
   pub entries : (i : ℕ) (c : Chunk) → slice_get chunks i ≡ Some c → typing c.entry ≡ Some bare
   pub steps : (i : ℕ) (c : Chunk) (a : ℕ) (r : Op × ℕ) (s : Shape) → slice_get chunks i ≡ Some c
       → Start p.code c a → op_at p.code a ≡ Some r → typing a ≡ Some s
-      → Agrees typing c.max_stack a r.1 (effect_of p r.0) s
+      → Agrees p typing c.max_stack a r.1 (effect_of p r.0) s
 
 -- there is a typing
 abbrev pub HasTyping : View → List Chunk → Type 0
@@ -104,7 +106,8 @@ abbrev pub take_op : View → ℕ → ℕ → AnalysisState → Option (Op × �
 take_op p max a f None s = Ok f
 take_op p max a f (Some r) None = Ok f
 take_op p max a f (Some r) (Some s) =
-    shape_after max a (effect_of p r.0) s >>= λ t. arrive_all (arrivals (flow_of r.0) (a + r.1) t) f
+    shape_after max a (effect_of p r.0) s
+    >>= λ t. arrive_all (arrivals p (effect_of p r.0) (a + r.1) t) f
 
 abbrev pub take_at : View → ℕ → ℕ → AnalysisState → Result AnalysisState Refusal
 take_at p max a f = take_op p max a f (op_at p.code a) (shape_at f.shapes a)
@@ -166,23 +169,23 @@ Gives f (Err e) found = (e ≡ refusal.Memory) ⊎ (found ≡ Err e)
 
 -- what the code needs where it takes an address: an instruction and a known shape are there, and
 -- the table has a place there and wherever the instruction leads
-pub record Ready (code : List ℕ) (shapes : List (Option Shape)) (a : ℕ) : Type 0 where
-  pub small : length code ≤ most_code
-  pub room : length shapes ≡ length code
-  pub within : a < length code
-  pub read : op_at code a ≡ None → ⊥
+pub record Ready (p : View) (shapes : List (Option Shape)) (a : ℕ) : Type 0 where
+  pub small : length p.code ≤ most_code
+  pub room : length shapes ≡ length p.code
+  pub within : a < length p.code
+  pub read : op_at p.code a ≡ None → ⊥
   pub known : shape_at shapes a ≡ None → ⊥
-  pub targets : (r : Op × ℕ) → op_at code a ≡ Some r
-      → AllByRecursion (λ b. b < length code) (leads (flow_of r.0) (a + r.1))
+  pub targets : (r : Op × ℕ) → op_at p.code a ≡ Some r
+      → AllByRecursion (λ b. b < length p.code) (leads_of p r.0 (a + r.1))
 
 -- what the code needs where it walks a chunk: none waits yet, the table has a place for each
 -- address, and the chunk's instructions are read and lead to instructions of the chunk
-pub record IsAnalysable (code : List ℕ) (c : Chunk) (f : AnalysisState) : Type 0 where
-  pub small : length code ≤ most_code
-  pub room : length f.shapes ≡ length code
+pub record IsAnalysable (p : View) (c : Chunk) (f : AnalysisState) : Type 0 where
+  pub small : length p.code ≤ most_code
+  pub room : length f.shapes ≡ length p.code
   pub none : f.waiting ≡ []
   pub full : c.entry < c.end
-  pub inside : c.end ≤ length code
-  pub closed : (a : ℕ) → Start code c a
-      → (r : Op × ℕ) × (op_at code a ≡ Some r)
-      × ((b : ℕ) → In b (leads (flow_of r.0) (a + r.1)) → Start code c b)
+  pub inside : c.end ≤ length p.code
+  pub closed : (a : ℕ) → Start p.code c a
+      → (r : Op × ℕ) × (op_at p.code a ≡ Some r)
+      × ((b : ℕ) → In b (leads_of p r.0 (a + r.1)) → Start p.code c b)

@@ -14,6 +14,7 @@ use Rattle.grain_program.specs.declared.code.parts.AssignOp.{AssignOp}
 use Rattle.grain_program.specs.declared.code.chains.Chain.{Chain}
 use Rattle.grain_program.specs.declared.code.chains.Root.TheVariants as root
 use Rattle.grain_program.specs.declared.code.chains.Tail.TheVariants as tail
+use Rattle.grain_program.specs.declared.code.switches.Switch.{Switch}
 use Rattle.grain_program.specs.declared.code.parts.PositionEntry.{PositionEntry}
 use Rattle.grain_program.specs.declared.code.parts.Parts.{Parts}
 
@@ -28,6 +29,7 @@ pub record View : Type 0 where
   pub tokens : List Token
   pub assign_ops : List AssignOp
   pub chains : List Chain
+  pub switches : List Switch
   pub positions : List PositionEntry
   pub source : Option (List ℕ)
 
@@ -42,6 +44,7 @@ view_of p = record {
   tokens = p.tokens;
   assign_ops = p.assign_ops;
   chains = p.chains;
+  switches = p.switches;
   positions = p.positions;
   source = p.source;
 }
@@ -67,6 +70,12 @@ no_chain = record { root = root.Local 0 0; steps = []; tail = tail.Read; operand
 
 abbrev pub chain_of : View → ℕ → Chain
 chain_of v i = slice_index_or v.chains i no_chain
+
+abbrev pub no_switch : Switch
+no_switch = record { cases = []; ranges = []; default = 0 }
+
+abbrev pub switch_of : View → ℕ → Switch
+switch_of v i = slice_index_or v.switches i no_switch
 
 -- the position that is recorded for the address, or none
 abbrev pub position_in : List PositionEntry → ℕ → Position

@@ -4,5 +4,8 @@ pub mod Widths
 pub mod Tags
 pub mod Starts
 pub mod Layout
+pub mod Ascending
+pub mod SwitchTargets
+pub mod Leads
 pub mod TypedAt
 pub mod Lookups

@@ -11,3 +11,4 @@ pub mod instruction_set;
 pub mod numbers;
 pub mod parts;
 pub mod pools;
+pub mod switches;

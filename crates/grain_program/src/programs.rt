@@ -1,7 +1,7 @@
 //! Programs: parts that break no rule.
 
 ghost use Rattle.std.specs.Prelude.{◌≡◌, ◌<◌, ◌^◌, ◌⊎◌, ℕ, List, [], length, slice_get, IfOk, IfErr, IfSome, Some, option_map};
-ghost use Rattle.grain_program.specs.View.{View, view_of, position_in, const_of, name_of, token_of, assign_op_of, chain_of, position_of};
+ghost use Rattle.grain_program.specs.View.{View, view_of, position_in, const_of, name_of, token_of, assign_op_of, chain_of, switch_of, position_of};
 ghost use Rattle.grain_program.specs.Decoding.{op_at};
 ghost use Rattle.grain_program.specs.Typing.{IsProgram, IsRefusal};
 ghost use Rattle.grain_program.specs.Indices.{IsNamed};
@@ -18,6 +18,7 @@ use crate::code::functions::{Function, Functions};
 use crate::code::instruction_set::Op;
 use crate::code::parts::{AssignOp, Chunk, Parts, PositionEntry};
 use crate::code::pools::Names;
+use crate::code::switches::Switch;
 use crate::lookups::{
     FirstFunctions, FunctionIndex, first_by_text, first_functions, first_method, first_of,
     index_functions,
@@ -170,7 +171,7 @@ impl Program {
     pub fn function_at(&self, number: usize) -> &Function
         requires { number < length self.now.functions }
         ensures value { slice_get self.now.functions number ≡ Some result.now }
-        ensures enters { IsTypedAt self.now result.now.chunk result.now.chunk.entry 0 [] }
+        ensures enters { IsTypedAt self.now result.now.chunk result.now.chunk.entry 0 0 [] }
         ensures named { IsNamed self.now result.now }
         ensures small { result.now.chunk.max_stack < 2 ^ 16 }
     {
@@ -301,6 +302,14 @@ impl Program {
         self.parts.chains.at(index as usize)
     }
 
+    /// The switch at the index.
+    pub fn switch(&self, index: u32) -> &Switch
+        requires { index < length self.now.switches }
+        ensures { result.now ≡ switch_of self.now index }
+    {
+        self.parts.switches.at(index as usize)
+    }
+
     /// The first slot of the step of this number, of the chain at the index: by it a trace names the
     /// step. Slots are numbered over all chains, one for each position that a root or a step has.
     pub fn step_slot(&self, index: u32, number: usize) -> u32
@@ -311,16 +320,17 @@ impl Program {
         slot_among(&self.slots, chains, index as usize, number)
     }
 
-    /// The instruction at which a frame of the chunk stands with depth operands and some handlers,
-    /// and its width in bytes.
+    /// The instruction at which a frame of the chunk stands with depth operands, and with some cursors
+    /// and handlers, and its width in bytes.
     #[inline(always)]
     pub fn fetch(&self, chunk: Chunk, address: usize, depth: usize) -> (Op, usize)
-        requires { (handlers : List TryHandler) × IsTypedAt self.now chunk address depth handlers }
+        requires { (cursors : ℕ) × ((handlers : List TryHandler) × IsTypedAt self.now chunk address
+            depth cursors handlers) }
         ensures read { op_at self.now.code address ≡ Some (result.0, result.1) }
         ensures provides { Provides self.now chunk address depth result.0 result.1 }
-        ensures verified { (handlers : List TryHandler) →
-            IsTypedAt self.now chunk address depth handlers →
-            Verified self.now chunk address depth handlers result.0 result.1 }
+        ensures verified { (cursors : ℕ) (handlers : List TryHandler) →
+            IsTypedAt self.now chunk address depth cursors handlers →
+            Verified self.now chunk address depth cursors handlers result.0 result.1 }
     {
         let _ = chunk;
         let _ = depth;

@@ -2,6 +2,8 @@ pub mod Lists
 pub mod Rotated
 pub mod Bound
 pub mod Nesting
-pub mod Handling
+pub mod Belonging
+pub mod Depths
+pub mod Items
 pub mod Spreading
 pub mod Regaining

@@ -1,4 +1,6 @@
-pub mod Handlers
+pub mod Cursors
+pub mod Entries
+pub mod LentEntries
 pub mod Lending
 pub mod Views
 pub mod Filled

@@ -11,15 +11,12 @@ pub struct Handler {
     pub variable: Option<u32>,
     /// How many operands the frame had where the handler was pushed.
     pub operands: usize,
+    /// How many cursors the frame had there.
+    pub cursors: usize,
+    /// How many totals the frame had there.
+    pub totals: usize,
     /// How many entries the scope had there.
     pub scope: usize,
     /// The fault that it has caught.
     pub caught: Option<EvalAltResult>,
-}
-
-/// A handler of a frame that has this many frames around it.
-#[derive(Drop)]
-pub struct FrameHandler {
-    pub depth: usize,
-    pub handler: Handler,
 }

@@ -1,22 +1,29 @@
-//! One stack of operands for all frames, their handlers, and the trace of a fault.
+//! One stack of operands for all frames, what else they have, and the trace of a fault.
 
 ghost use Rattle.std.specs.Prelude.{◌≡◌, ◌<◌, ◌≤◌, ◌++◌, ◌∷◌, [], length, take, is_ok, if◌then◌else◌, All, true, false};
 ghost use Rattle.grain_value.specs.Operands.{top, below, under, read_write, arguments, bound_entries};
-ghost use Rattle.grain_stack.specs.Views.{StackFrame, no_frames, with_frame, without_frame, with_value, joined_frame};
+ghost use Rattle.std.specs.Bool.{OnTrue};
+ghost use Rattle.grain_stack.specs.Views.{StackFrame, IsBare, bare, no_frames, with_frame, without_frame, with_value, joined_frame};
 
+mod frame_cursors;
 mod frame_handlers;
+mod frame_totals;
 mod operands;
 
+use crate::cursors::Cursor;
 use crate::floors::{Floor, Floors};
-use crate::handlers::FrameHandler;
+use crate::frame_entries::FrameEntries;
+use crate::handlers::Handler;
 use crate::slots::Slots;
+use crate::totals::Total;
 use grain_fault::Fault;
 use grain_value::{Dynamic, Held, List, Name, OutOfMemory, Scope};
 use std::alloc::Global;
 use std::marker::Model;
 
-/// The operands of all frames, and the trace of a fault. Every call but `new`, `enter`,
-/// `enter_with_arguments`, `trace`, `cut_trace` and `entered` acts on the innermost frame.
+/// The operands, handlers, cursors and totals of all frames, and the trace of a fault. Every call but
+/// `new`, `enter`, `enter_with_arguments`, `trace`, `cut_trace`, `put_trace` and `entered` acts on the
+/// innermost frame.
 #[derive(Drop)]
 pub struct Stacks {
     slots: Slots,
@@ -24,8 +31,9 @@ pub struct Stacks {
     room: usize,
     noted: bool,
     outer: Floors,
-    // those of the inner frames behind those of the outer ones
-    handlers: Vec<FrameHandler>,
+    handlers: FrameEntries<Handler>,
+    cursors: FrameEntries<Cursor>,
+    totals: FrameEntries<Total>,
     trace: Vec<Fault>,
     entered: u64,
 }
@@ -38,8 +46,9 @@ impl Model for Stacks {
     ghost Value = { StacksView };
 
     ghost use Rattle.grain_fault.specs.contracts.faults.EvalAltResult as row;
+    ghost use Rattle.grain_stack.specs.contracts.cursors.Cursor as cursor;
 
-    ghost coded = { Prim.hlevel (codes, coded_tree, row.the_row.coded) };
+    ghost coded = { Prim.hlevel (codes, coded_tree, row.the_row.coded, cursor.the_row.coded) };
 
     ghost use Rattle.grain_stack.specs.Floors.{stacks_view, IsSound};
 
@@ -59,7 +68,9 @@ impl Stacks {
             room: 0,
             noted: false,
             outer: Floors::new(alloc),
-            handlers: Vec::new(alloc),
+            handlers: FrameEntries::new(alloc),
+            cursors: FrameEntries::new(alloc),
+            totals: FrameEntries::new(alloc),
             trace: Vec::new(alloc),
             entered: 0,
         }
@@ -141,7 +152,7 @@ impl Stacks {
         ensures { self.new ≡ without_frame self.old.outer self.old }
     {
         self.slots.truncate(self.bottom);
-        self.drop_handlers();
+        self.drop_entries();
         self.join_frame();
     }
 
@@ -156,7 +167,7 @@ impl Stacks {
             (without_frame self.old.outer self.old) }
     {
         self.keep_value();
-        self.drop_handlers();
+        self.drop_entries();
         self.join_frame();
     }
 
@@ -206,33 +217,41 @@ impl Stacks {
         Dynamic::Unit
     }
 
-    // The frame's handlers go.
+    // The frame's handlers, cursors and totals go.
     #[inline(always)]
-    fn drop_handlers(&mut self)
-        ensures { self.new ≡ record self.old { handlers = [] } }
+    fn drop_entries(&mut self)
+        ensures { self.new ≡ bare self.old }
     {
-        if !self.handlers.is_empty() {
-            self.drop_handlers_there();
+        if !self.has_no_entries() {
+            self.drop_entries_there();
         }
     }
 
-    // The same, where there are handlers.
+    // Whether no frame has a handler, a cursor or a total, by one test.
+    #[inline(always)]
+    fn has_no_entries(&self) -> bool
+        ensures { OnTrue result (IsBare self.now) }
+    {
+        (self.handlers.len() | self.cursors.len() | self.totals.len()) == 0
+    }
+
+    // The frame's handlers, cursors and totals go, where frames have some.
     #[cold]
     #[inline(never)]
-    fn drop_handlers_there(&mut self)
-        ensures { self.new ≡ record self.old { handlers = [] } }
+    fn drop_entries_there(&mut self)
+        ensures { self.new ≡ bare self.old }
     {
-        'handlers: while self.innermost_handler().is_some() {
-            drop(self.pop_handler());
-        }
+        self.cut_handlers(0);
+        self.cut_cursors(0);
+        self.cut_totals(0);
     }
 
-    // The innermost frame, which has no handlers, and the one around it become one, with the
-    // operands of both.
+    // The innermost frame, which has no handlers, cursors and totals, and the one around it become
+    // one, with the operands of both.
     #[inline(always)]
     fn join_frame(&mut self)
         requires entered { 0 < length self.old.outer }
-        requires bare { self.old.handlers ≡ [] }
+        requires bare { IsBare self.old }
         ensures { self.new ≡ joined_frame self.old.outer self.old }
     {
         let floor = self.outer.pop();

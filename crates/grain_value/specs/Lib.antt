@@ -7,6 +7,7 @@ pub mod Maps
 pub mod Pointers
 pub mod Quoting
 pub mod Looking
+pub mod Items
 pub mod Writing
 pub mod Tokens
 pub mod Scopes

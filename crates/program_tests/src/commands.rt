@@ -114,7 +114,7 @@ fn check_end(rt: &(impl Abort + Eprint), exit: Exit, sink: &MemorySink, status: 
 #[test]
 fn words_and_lines_that_are_not_there(rt: HostRuntime) {
     let not_built = Call {
-        listing: "grain 1\nswitch 1\n",
+        listing: "grain 1\nsite 1\n",
         ..RUN
     };
     let text = "listing line 2: not built\n";

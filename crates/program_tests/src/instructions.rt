@@ -13,11 +13,12 @@ const LINES: &str = "grain 1\nmain 1\n\
     assign_local_op 513 1027 1541\nload_this\nload_this_shared\nrequire_this\nassign_this\n\
     assign_this_op 513\nload_shared 513\nshare 513\nis_shared\npop\nrotate 1\n\
     jump 67305985\njump_if_false 67305985\njump_if_true 67305985\nskip_if_not_unit 67305985\n\
-    call 513 3\ncall_op 513 3 1284\nmake_closure 513\ncurry 1\ncall_fn_ptr 1\n\
+    switch 513\ncall 513 3\ncall_op 513 3 1284\nmake_closure 513\ncurry 1\ncall_fn_ptr 1\n\
     call_fn_ptr_method 1\ncall_fn_ptr_on_local 1 770\ncall_fn_ptr_on_this 1\n\
     chain 513\nunwind_to 513\n\
     tick\ncheckpoint\nstatement 513\npush_handler 67305985\npush_handler_var 67305985 1541\n\
-    pop_handler\nthrow\nreturn\nend\n";
+    pop_handler\niter_init\niter_drop\niter_next 67305985\n\
+    iter_next_indexed 67305985 1541\nthrow\nreturn\nend\n";
 
 /// The bytes of these lines.
 const BYTES: &[u8] = b"\x01\x01\x02\x02\x03\x04\x05\x01\x02\x06\x01\x02\x07\x01\x02\
@@ -25,11 +26,11 @@ const BYTES: &[u8] = b"\x01\x01\x02\x02\x03\x04\x05\x01\x02\x06\x01\x02\x07\x01\
     \x11\x01\x02\x03\x04\x05\x06\x12\x13\x14\x15\x16\x01\x02\
     \x17\x01\x02\x18\x01\x02\x1a\x1b\x1c\x01\
     \x1d\x01\x02\x03\x04\x1e\x01\x02\x03\x04\x1f\x01\x02\x03\x04\x20\x01\x02\x03\x04\
-    \x22\x01\x02\x03\x23\x01\x02\x03\x04\x05\x27\x01\x02\x29\x01\x2a\x01\
+    \x21\x01\x02\x22\x01\x02\x03\x23\x01\x02\x03\x04\x05\x27\x01\x02\x29\x01\x2a\x01\
     \x2c\x01\x2d\x01\x02\x03\x2f\x01\x37\x01\x02\
     \x38\x01\x02\
     \x39\x3a\x3b\x01\x02\x3c\x01\x02\x03\x04\x3d\x01\x02\x03\x04\x05\x06\
-    \x3e\x49\x4a";
+    \x3e\x3f\x40\x41\x01\x02\x03\x04\x42\x01\x02\x03\x04\x05\x06\x49\x4a";
 
 /// The instructions of these lines, as they are written for a debugger.
 const OPS: &str = "\
@@ -38,16 +39,17 @@ const OPS: &str = "\
     AssignLocalOp(513, 1027, 1541)\nLoadThis\nLoadThisShared\nRequireThis\nAssignThis\n\
     AssignThisOp(513)\nLoadShared(513)\nShare(513)\nIsShared\nPop\nRotate(1)\n\
     Jump(67305985)\nJumpIfFalse(67305985)\nJumpIfTrue(67305985)\nSkipIfNotUnit(67305985)\n\
-    Call(513, 3)\nCallOp(513, 3, 1284)\nMakeClosure(513)\nCurry(1)\nCallFnPtr(1)\n\
+    Switch(513)\nCall(513, 3)\nCallOp(513, 3, 1284)\nMakeClosure(513)\nCurry(1)\nCallFnPtr(1)\n\
     CallFnPtrMethod(1)\nCallFnPtrOnLocal(1, 770)\nCallFnPtrOnThis(1)\n\
     Chain(513)\nUnwindTo(513)\nTick\nCheckpoint\nStatement(513)\nPushHandler(67305985)\n\
-    PushHandlerVar(67305985, 1541)\nPopHandler\nThrow\nReturn\n";
+    PushHandlerVar(67305985, 1541)\nPopHandler\nIterInit\nIterDrop\nIterNext(67305985)\n\
+    IterNextIndexed(67305985, 1541)\nThrow\nReturn\n";
 
-/// The instructions of code that has 44 of them and ends after the last.
+/// The instructions of code that has 49 of them and ends after the last.
 fn decoded(rt: &impl Abort, alloc: Global, code: &Blob) -> Vec<Op> {
     let mut ops = Vec::new(alloc);
     let mut address = 0usize;
-    for _ in 0..44u32 {
+    for _ in 0..49u32 {
         let (op, width) = decode(code, address).expect(rt, "no instruction");
         ops.push(op).expect(rt, "memory");
         address = address.saturating_add(width);

@@ -229,14 +229,14 @@ fn long_lines(rt: HostRuntime) {
 
 /// Lines of later versions of the format, up to the word that decides.
 const LATER_LINES: &str = "\
-    switch\ncase\nrange\nrange=\nsite\ninput\nfragment\nmodule\nitem\nvar\n\
+    site\ninput\nfragment\nmodule\nitem\nvar\n\
     answer\nforbid\nchunk 1\nlimit modules 1\nlimit array x\nlimit map 1\nflag shadowing off\n\
     load_named\nload_shared_named\nassign_named\nassign_named_op\ndeclare_global_const\n\
     share_named\n\
     call_local_ref\ncall_named_ref\ncall_this_ref\nmake_fn_ptr\ncall_fn_ptr_capture\n\
     call_fn_ptr_on_named\n\
     make_array\nmake_map\ncheck_array_size\ncheck_map_size\ninterpolate_start\n\
-    interpolate_append\ninterpolate_end\niter_init\niter_drop\niter_next 0\niter_next_indexed\n\
+    interpolate_append\ninterpolate_end\n\
     export_local\nexport_named\nimport\ncustom_syntax\neval_ast\neval_ast_keep\n";
 
 #[test]

@@ -7,7 +7,7 @@ ghost use Rattle.grain_listing.specs.ListingViews.{IsReady};
 use grain_listing::{Listing, read};
 use grain_program::{
     AssignOps, Caps, Chains, Chunk, Function, Functions, Indices, Names, Parts, Positions, Program,
-    Refusal, Tokens, verify,
+    Refusal, Switches, Tokens, verify,
 };
 use grain_value::{Array, Blob, Name, Text};
 use std::alloc::Global;
@@ -58,6 +58,7 @@ fn parts_of(rt: &impl Abort, alloc: Global, returns: usize, main_end: u32, funct
         tokens: Tokens::new(alloc),
         assign_ops: AssignOps::new(alloc),
         chains: Chains::new(alloc),
+        switches: Switches::new(alloc),
         positions: Positions::new(alloc),
         source: None,
     }

@@ -12,11 +12,13 @@ use Rattle.grain_program.specs.declared.code.parts.Chunk.{Chunk}
 use Rattle.grain_program.specs.declared.code.instruction_set.Op.{Op}
 use Rattle.grain_program.specs.declared.code.effects.Handling.{Handling}
 use Rattle.grain_program.specs.declared.code.effects.Handling.TheVariants as handling
-use Rattle.grain_program.specs.Effects.{takes_of, gives_of, leads_of, handling_of}
+use Rattle.grain_program.specs.declared.code.effects.Looping.TheVariants as looping
+use Rattle.grain_program.specs.Effects.{takes_of, gives_of, leads_of, looping_of, handling_of, cursors_taken}
 use Rattle.grain_program.specs.Shapes.{TryHandler, handled}
-use Rattle.grain_program.specs.laws.TypedAt.{IsTypedAt, Verified, goes_on}
+use Rattle.grain_program.specs.laws.TypedAt.{IsTypedAt, Verified}
 use Rattle.grain_program.specs.Decoding.{op_at}
 use Rattle.grain_program.specs.View.{View}
+use Rattle.grain_stack.specs.declared.cursors.Cursor.{Cursor}
 use Rattle.grain_stack.specs.declared.handlers.Handler.{Handler}
 use Rattle.grain_host.specs.Law.{Law}
 use Rattle.grain_global.specs.declared.engines.Engine.{Engine}
@@ -33,16 +35,8 @@ use Rattle.grain_frame.specs.declared.activations.Activation.{Activation}
 use Rattle.grain_frame.specs.declared.runs.Progress.{Progress}
 use Rattle.grain_frame.specs.declared.runs.Progress.TheVariants as progress
 use Rattle.grain_frame.specs.declared.runs.Run.{Run}
-
--- a frame that runs is typed with its handlers
-pub typed_with : {H : Type 0} (p : View) (f : Activation) (s : Run H) (depth : ℕ) →
-    depth ≡ length s.stacks.operands → Runs p f s →
-    (hs : List TryHandler) × IsTypedAt p f.chunk f.address depth hs
-typed_with p f s depth deep runs = (
-  tries_in s.stacks.handlers,
-  subst (λ (k : ℕ). IsTypedAt p f.chunk f.address k (tries_in s.stacks.handlers)) (sym deep)
-      runs.typed,
-)
+use Rattle.grain_frame.specs.lemmas.Standing.{goes_with_cursors}
+pub use Rattle.grain_frame.specs.lemmas.Standing.{typed_with, verified}
 
 -- the instruction that stands there
 pub performs : {H : Type 0} {m : Setup H} {now : LocalState H} (f : Option Place → Frame) (o : Op)
@@ -69,31 +63,38 @@ taken_back f g chunk base = rw (← chunk, ← base) refl
 -- an instruction at which a frame stands, by what was verified of it
 module _ {H : Type 0} (law : Law H) (p : View) (engine : Engine) (f : Activation) (s : Run H)
     (o : Op) (width : ℕ) (runs : Runs p f s)
-    (here : Verified p f.chunk f.address (length s.stacks.operands) (tries_in s.stacks.handlers) o
-    width) where
+    (here : Verified p f.chunk f.address (length s.stacks.operands) (length s.stacks.cursors)
+    (tries_in s.stacks.handlers) o width) where
   -- the operands that it leaves
   abbrev left : ℕ
   left = length s.stacks.operands - takes_of p o + gives_of o
 
-  -- the frame goes on with other handlers
-  module _ (handlers : List Handler)
-      (become : tries_in handlers ≡ handled (handling_of o) left (tries_in s.stacks.handlers))
+  -- the frame goes on with its cursors and other handlers
+  module _ (holds : looping_of o ≡ looping.Keep) (handlers : List Handler)
+      (become : tries_in handlers
+      ≡ handled (handling_of o) left (length s.stacks.cursors) (tries_in s.stacks.handlers))
       (above : Above f.base handlers) (f' : Activation) (s' : Run H) where
     stays : (r : Result Progress OutOfMemory) → KeepsFrame f s f' s' →
-        ContinuesAt engine s f s' f' (leads_of o (f.address + width)) (takes_of p o) (gives_of o)
+        ContinuesAt engine s f s' f' (leads_of p o (f.address + width)) (takes_of p o) (gives_of o)
         handlers r → StaysTyped p engine s f s' f' r
     stays (Ok progress.Continues) kept lands =
         let hs = tries_in s.stacks.handlers in
-        let same : handled (handling_of o) left hs ≡ tries_in s'.stacks.handlers =
+        let many = length s.stacks.cursors in
+        let same : handled (handling_of o) left many hs ≡ tries_in s'.stacks.handlers =
         sym become ∙ ap tries_in (sym lands.2) in
+        let few : many ≡ length s'.stacks.cursors =
+        sym (ap (λ (cs : List Cursor). length cs) lands.4) in
         let inside = here.provides.inside in
         let wide = here.provides.wide in (
           subst (λ (c : Chunk). IsTypedAt p c f'.address (length s'.stacks.operands)
-              (tries_in s'.stacks.handlers)) (sym kept.chunk)
+              (length s'.stacks.cursors) (tries_in s'.stacks.handlers)) (sym kept.chunk)
+              (subst (λ (k : ℕ). IsTypedAt p f.chunk f'.address (length s'.stacks.operands) k
+              (tries_in s'.stacks.handlers)) few
               (subst (λ (ts : List TryHandler).
-              IsTypedAt p f.chunk f'.address (length s'.stacks.operands) ts) same
-              (subst (λ (k : ℕ). IsTypedAt p f.chunk f'.address k
-              (handled (handling_of o) left hs)) (sym lands.1) (goes_on here f'.address lands.0))),
+              IsTypedAt p f.chunk f'.address (length s'.stacks.operands) many ts) same
+              (subst (λ (k : ℕ). IsTypedAt p f.chunk f'.address k many
+              (handled (handling_of o) left many hs)) (sym lands.1)
+              (goes_with_cursors holds here f'.address lands.0)))),
           lands.3,
           omega (arith, inside, wide),
           rw (kept.base, lands.2) above,
@@ -101,7 +102,9 @@ module _ {H : Type 0} (law : Law H) (p : View) (engine : Engine) (f : Activation
     stays (Ok progress.Returned) kept lands = tt
     stays (Ok progress.Failed) kept lands = (
       length s.stacks.operands - takes_of p o,
+      length s.stacks.cursors - cursors_taken (looping_of o),
       lands.0,
+      omega (arith, ap (λ (cs : List Cursor). length cs) lands.2),
       rw (kept.chunk, lands.1) here.covered,
       rw (kept.base, lands.1) runs.above,
     )
@@ -114,7 +117,7 @@ module _ {H : Type 0} (law : Law H) (p : View) (engine : Engine) (f : Activation
         (λ m place w. instr m o (f.address + width) (frame_in f s place) w) (is_out r)
         (abstraction s' n' host') (continuation r s'.fault (frame_in f' s')) →
         KeepsFrame f s f' s' →
-        ContinuesAt engine s f s' f' (leads_of o (f.address + width)) (takes_of p o) (gives_of o)
+        ContinuesAt engine s f s' f' (leads_of p o (f.address + width)) (takes_of p o) (gives_of o)
         handlers r → n'.before ≡ n.before → Stepped (setup law p engine) (moment f s n host) r
         (moment f' s' n' host')
     done_with read n n' host host' {r} goes kept lands before = record {
@@ -124,37 +127,41 @@ module _ {H : Type 0} (law : Law H) (p : View) (engine : Engine) (f : Activation
       before = before;
     }
 
-  -- the instruction was done, which keeps the handlers
-  pub done : handling_of o ≡ handling.Keep → op_at p.code f.address ≡ Some (o, width) →
+  -- the instruction was done, which keeps the cursors and the handlers
+  pub done : looping_of o ≡ looping.Keep → handling_of o ≡ handling.Keep →
+      op_at p.code f.address ≡ Some (o, width) →
       (n : StepsView) (f' : Activation) (s' : Run H) (n' : StepsView) (host host' : H)
       {r : Result Progress OutOfMemory} →
       Simulates (setup law p engine) (abstraction s n host)
       (λ m place w. instr m o (f.address + width) (frame_in f s place) w) (is_out r)
       (abstraction s' n' host') (continuation r s'.fault (frame_in f' s')) →
       KeepsFrame f s f' s' →
-      ContinuesAt engine s f s' f' (leads_of o (f.address + width)) (takes_of p o) (gives_of o)
+      ContinuesAt engine s f s' f' (leads_of p o (f.address + width)) (takes_of p o) (gives_of o)
       s.stacks.handlers r → n'.before ≡ n.before → Stepped (setup law p engine) (moment f s n host)
       r (moment f' s' n' host')
-  done keeps read n f' s' n' host host' goes kept lands before =
-      done_with s.stacks.handlers
-      (ap (λ (h : Handling). handled h left (tries_in s.stacks.handlers)) (sym keeps)) runs.above
+  done holds keeps read n f' s' n' host host' goes kept lands before =
+      done_with holds s.stacks.handlers
+      (ap (λ (h : Handling). handled h left (length s.stacks.cursors) (tries_in s.stacks.handlers))
+      (sym keeps)) runs.above
       f' s' read n n' host host' goes kept lands before
 
 -- an instruction that was read in the code
 module _ {H : Type 0} (law : Law H) (p : View) (engine : Engine) (f : Activation) (s : Run H)
     (said o : Op) (width depth : ℕ) (is : said ≡ o) (deep : depth ≡ length s.stacks.operands)
     (runs : Runs p f s)
-    (seen : (hs : List TryHandler) → IsTypedAt p f.chunk f.address depth hs →
-    Verified p f.chunk f.address depth hs said width) where
+    (seen : (cursors : ℕ) (hs : List TryHandler) → IsTypedAt p f.chunk f.address depth cursors hs →
+    Verified p f.chunk f.address depth cursors hs said width) where
   -- what was verified of it
-  pub here : Verified p f.chunk f.address (length s.stacks.operands) (tries_in s.stacks.handlers) o
-      width
+  pub here : Verified p f.chunk f.address (length s.stacks.operands) (length s.stacks.cursors)
+      (tries_in s.stacks.handlers) o width
   here =
       let hs = tries_in s.stacks.handlers in
-      let typed : IsTypedAt p f.chunk f.address depth hs =
-      subst (λ (k : ℕ). IsTypedAt p f.chunk f.address k hs) (sym deep) runs.typed in
-      subst (λ (q : Op). Verified p f.chunk f.address (length s.stacks.operands) hs q width) is
-      (subst (λ (k : ℕ). Verified p f.chunk f.address k hs said width) deep (seen hs typed))
+      let many = length s.stacks.cursors in
+      let typed : IsTypedAt p f.chunk f.address depth many hs =
+      subst (λ (k : ℕ). IsTypedAt p f.chunk f.address k many hs) (sym deep) runs.typed in
+      subst (λ (q : Op). Verified p f.chunk f.address (length s.stacks.operands) many hs q width) is
+      (subst (λ (k : ℕ). Verified p f.chunk f.address k many hs said width) deep
+      (seen many hs typed))
 
   there : op_at p.code f.address ≡ Some (said, width) → op_at p.code f.address ≡ Some (o, width)
   there read = read ∙ ap (λ (q : Op). Some (q, width)) is
@@ -174,69 +181,65 @@ module _ {H : Type 0} (law : Law H) (p : View) (engine : Engine) (f : Activation
   stands read = record { width = width; read = there read; next_is = refl; seen = here }
 
   -- where the instruction leads, the typing knows the frame
-  pub leads_typed : handling_of o ≡ handling.Keep → (b : ℕ) →
-      In b (leads_of o (f.address + width)) →
+  pub leads_typed : looping_of o ≡ looping.Keep → handling_of o ≡ handling.Keep → (b : ℕ) →
+      In b (leads_of p o (f.address + width)) →
       IsTypedAt p f.chunk b (length s.stacks.operands - takes_of p o + gives_of o)
-      (tries_in s.stacks.handlers)
-  leads_typed keeps b leads =
+      (length s.stacks.cursors) (tries_in s.stacks.handlers)
+  leads_typed holds keeps b leads =
       let left : ℕ = length s.stacks.operands - takes_of p o + gives_of o in
-      subst (λ (h : Handling). IsTypedAt p f.chunk b left
-      (handled h left (tries_in s.stacks.handlers))) keeps (goes_on here b leads)
+      let many = length s.stacks.cursors in
+      subst (λ (h : Handling). IsTypedAt p f.chunk b left many
+      (handled h left many (tries_in s.stacks.handlers))) keeps
+      (goes_with_cursors holds here b leads)
 
   module _ (read : op_at p.code f.address ≡ Some (said, width))
-      (keeps : handling_of o ≡ handling.Keep) (n : StepsView) (f' : Activation) (s' : Run H)
-      (n' : StepsView) where
-    -- the instruction was done, which keeps the handlers
+      (holds : looping_of o ≡ looping.Keep) (keeps : handling_of o ≡ handling.Keep)
+      (n : StepsView) (f' : Activation) (s' : Run H) (n' : StepsView) where
+    -- the instruction was done, which keeps the cursors and the handlers
     pub stepped : (host host' : H) {r : Result Progress OutOfMemory} →
         Performs (setup law p engine) (moment f s n host) o (f.address + width) r
         (moment f' s' n' host') →
         Stepped (setup law p engine) (moment f s n host) r (moment f' s' n' host')
     stepped host host' does =
-        done law p engine f s o width runs here keeps (there read) n f' s' n' host host'
+        done law p engine f s o width runs here holds keeps (there read) n f' s' n' host host'
         (same does.same) does.kept does.lands does.before
-
--- what was verified of an instruction at which the frame stands
-pub verified : {H : Type 0} {p : View} {f : Activation} {s : Run H} {said o : Op} {next : ℕ}
-    (is : said ≡ o) (at : StandsAt p f s said next) →
-    Verified p f.chunk f.address (length s.stacks.operands) (tries_in s.stacks.handlers) o at.width
-verified {p = p} {f} {s} is at =
-    subst (λ (q : Op). Verified p f.chunk f.address (length s.stacks.operands)
-    (tries_in s.stacks.handlers) q at.width) is at.seen
 
 -- an instruction at which the frame stood was done, and the frame goes on with other handlers
 pub arm_with : {H : Type 0} {law : Law H} {p : View} {engine : Engine} {f f' : Activation}
     {s s' : Run H} {n n' : StepsView} {host host' : H} {said o : Op} {next : ℕ}
-    {r : Result Progress OutOfMemory} (is : said ≡ o) (handlers : List Handler) →
+    {r : Result Progress OutOfMemory} (is : said ≡ o) → looping_of o ≡ looping.Keep →
+    (handlers : List Handler) →
     tries_in handlers ≡ handled (handling_of o)
-    (length s.stacks.operands - takes_of p o + gives_of o) (tries_in s.stacks.handlers) →
+    (length s.stacks.operands - takes_of p o + gives_of o) (length s.stacks.cursors)
+    (tries_in s.stacks.handlers) →
     Above f.base handlers → StandsAt p f s said next → Runs p f s →
     Implements (setup law p engine) (moment f s n host)
-    (λ m place w. instr m o next (frame_in f s place) w) (leads_of o next) (takes_of p o)
+    (λ m place w. instr m o next (frame_in f s place) w) (leads_of p o next) (takes_of p o)
     (gives_of o) handlers r (moment f' s' n' host') →
     Stepped (setup law p engine) (moment f s n host) r (moment f' s' n' host')
 arm_with {H = H} {law} {p} {engine} {f} {f'} {s} {s'} {n} {n'} {host} {host'} {said} {o} {next} {r}
-    is handlers become above at runs does =
+    is holds handlers become above at runs does =
     let read : op_at p.code f.address ≡ Some (o, at.width) =
     at.read ∙ ap (λ (q : Op). Some (q, at.width)) is in
     let here = subst (λ (k : ℕ). Implements (setup law p engine) (moment f s n host)
-    (λ m place w. instr m o k (frame_in f s place) w) (leads_of o k) (takes_of p o)
+    (λ m place w. instr m o k (frame_in f s place) w) (leads_of p o k) (takes_of p o)
     (gives_of o) handlers r (moment f' s' n' host')) at.next_is does in
-    done_with law p engine f s o at.width runs (verified is at) handlers become above f' s' read n
+    done_with law p engine f s o at.width runs (verified is at) holds handlers become above f' s' read n
     n' host host' (same here.same) here.kept here.lands here.before
 
 -- the same of one that keeps the handlers
 pub arm : {H : Type 0} {law : Law H} {p : View} {engine : Engine} {f f' : Activation}
     {s s' : Run H} {n n' : StepsView} {host host' : H} {said o : Op} {next : ℕ}
     {r : Result Progress OutOfMemory} → said ≡ o → handling_of o ≡ handling.Keep →
-    StandsAt p f s said next → Runs p f s →
+    looping_of o ≡ looping.Keep → StandsAt p f s said next → Runs p f s →
     Performs (setup law p engine) (moment f s n host) o next r (moment f' s' n' host') →
     Stepped (setup law p engine) (moment f s n host) r (moment f' s' n' host')
 arm {H = H} {law} {p} {engine} {f} {f'} {s} {s'} {n} {n'} {host} {host'} {said} {o} {next} {r} is
-    keeps at runs does =
+    keeps holds at runs does =
     arm_with {law = law} {p = p} {engine = engine} {f = f} {f' = f'} {s = s} {s' = s'} {n = n}
-    {n' = n'} {host = host} {host' = host'} {o = o} {next = next} is s.stacks.handlers
+    {n' = n'} {host = host} {host' = host'} {o = o} {next = next} is holds s.stacks.handlers
     (ap (λ (h : Handling). handled h (length s.stacks.operands - takes_of p o + gives_of o)
-    (tries_in s.stacks.handlers)) (sym keeps)) runs.above at runs does
+    (length s.stacks.cursors) (tries_in s.stacks.handlers)) (sym keeps)) runs.above at runs does
 
 -- where a branch leads
 pub to_target : (t next b : ℕ) → In b (t ∷ []) →
@@ -253,18 +256,19 @@ to_next t next b (inr i) = absurd i
 pub lands_on : {H : Type 0} (engine : Engine) (s s' : Run H) (v : StacksView) (f f' : Activation)
     (ts us : List ℕ) (takes gives more adds : ℕ) (hs : List Handler)
     (r : Result Progress OutOfMemory) →
+    v.cursors ≡ s.stacks.cursors →
     length v.operands - takes + gives ≡ length s.stacks.operands - more + adds →
     length s.stacks.operands - more ≤ length v.operands - takes → v.handlers ≡ s.stacks.handlers →
     ((b : ℕ) → In b ts → In b us) →
     ContinuesAt engine (record s { stacks = v }) f s' f' ts takes gives v.handlers r →
     ContinuesAt engine s f s' f' us more adds s.stacks.handlers r
-lands_on engine s s' v f f' ts us takes gives more adds hs (Ok progress.Continues) e g eh among l =
-    (among f'.address l.0, l.1 ∙ e, l.2 ∙ eh, l.3)
-lands_on engine s s' v f f' ts us takes gives more adds hs (Ok progress.Returned) e g eh among l =
+lands_on engine s s' v f f' ts us takes gives more adds hs (Ok progress.Continues) ec e g eh among l =
+    (among f'.address l.0, l.1 ∙ e, l.2 ∙ eh, l.3, l.4 ∙ ec)
+lands_on engine s s' v f f' ts us takes gives more adds hs (Ok progress.Returned) ec e g eh among l =
     tt
-lands_on engine s s' v f f' ts us takes gives more adds hs (Ok progress.Failed) e g eh among l =
-    (omega (arith, l.0, g), l.1 ∙ eh)
-lands_on engine s s' v f f' ts us takes gives more adds hs (Err x) e g eh among l = tt
+lands_on engine s s' v f f' ts us takes gives more adds hs (Ok progress.Failed) ec e g eh among l =
+    (omega (arith, l.0, g), l.1 ∙ eh, l.2 ∙ ec)
+lands_on engine s s' v f f' ts us takes gives more adds hs (Err x) ec e g eh among l = tt
 
 -- what a method did from a state with other operands, for the instruction of which it is a part
 pub implements_after : {H : Type 0} (law : Law H) (p : View) (engine : Engine) (f f' : Activation)
@@ -298,6 +302,7 @@ implements_after {H = H} law p engine f f' s s' n n' v ops {first} {rule} {ts} {
         later = does.kept.later;
       };
       lands = lands_on engine s s' v f f' ts us takes gives more adds v.handlers r
+          (ap (λ (q : StacksView). q.cursors) rest)
           (omega (arith, height, ap (λ (q : StacksView). length q.operands) rest))
           (omega (arith, low, ap (λ (q : StacksView). length q.operands) rest))
           (ap (λ (q : StacksView). q.handlers) rest) among does.lands;

@@ -5,8 +5,9 @@ use Rattle.grain_value.specs.declared.memory.OutOfMemory.{OutOfMemory}
 use Rattle.grain_fault.specs.declared.places.Position.{Position}
 use Rattle.grain_program.specs.declared.code.effects.Handling.{Handling}
 use Rattle.grain_program.specs.declared.code.effects.Handling.TheVariants as handling
+use Rattle.grain_program.specs.declared.code.effects.Looping.TheVariants as looping
 use Rattle.grain_program.specs.declared.code.instruction_set.Op.{Op}
-use Rattle.grain_program.specs.Effects.{takes_of, gives_of, leads_of, handling_of}
+use Rattle.grain_program.specs.Effects.{takes_of, gives_of, leads_of, looping_of, handling_of}
 use Rattle.grain_program.specs.Shapes.{handled}
 use Rattle.grain_program.specs.Decoding.{op_at}
 use Rattle.grain_program.specs.View.{View}
@@ -122,17 +123,17 @@ held_is m None roots (Some p) q f w go bound = absurd bound
 pub arm_bound : {H : Type 0} {law : Law H} {p : View} {engine : Engine} {f f' : Activation}
     {s s' : Run H} {n n' : StepsView} {host host' : H} {said o : Op} {next : ℕ}
     {r : Result Progress OutOfMemory} → said ≡ o → handling_of o ≡ handling.Keep →
-    StandsAt p f s said next → Runs p f s →
+    looping_of o ≡ looping.Keep → StandsAt p f s said next → Runs p f s →
     PerformsBound (setup law p engine) (moment f s n host) o next r (moment f' s' n' host') →
     Stepped (setup law p engine) (moment f s n host) r (moment f' s' n' host')
 arm_bound {H = H} {law} {p} {engine} {f} {f'} {s} {s'} {n} {n'} {host} {host'} {said} {o} {next}
-    {r} is keeps at runs does =
+    {r} is keeps stays at runs does =
     let read : op_at p.code f.address ≡ Some (o, at.width) =
     at.read ∙ ap (λ (q : Op). Some (q, at.width)) is in
     let here = subst (λ (k : ℕ). ImplementsBound (setup law p engine) (moment f s n host)
-    (λ m place w. instr m o k (frame_in f s place) w) (leads_of o k) (takes_of p o)
+    (λ m place w. instr m o k (frame_in f s place) w) (leads_of p o k) (takes_of p o)
     (gives_of o) s.stacks.handlers r (moment f' s' n' host')) at.next_is does in
-    done_with law p engine f s o at.width runs (verified is at) s.stacks.handlers
+    done_with law p engine f s o at.width runs (verified is at) stays s.stacks.handlers
     (ap (λ (h : Handling). handled h (length s.stacks.operands - takes_of p o + gives_of o)
-    (tries_in s.stacks.handlers)) (sym keeps)) runs.above f' s' read n n' host host'
+    (length s.stacks.cursors) (tries_in s.stacks.handlers)) (sym keeps)) runs.above f' s' read n n' host host'
     here.same here.kept here.lands here.before

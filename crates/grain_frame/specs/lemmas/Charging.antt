@@ -76,6 +76,7 @@ module _ {H : Type 0} (law : Law H) (p : View) (engine : Engine) (f : Activation
       omega (arith, ap (λ (q : Run H). length q.stacks.operands) run.0),
       ap (λ (q : Run H). q.stacks.handlers) run.0,
       inl (omega (arith, counted), run.1),
+      ap (λ (q : Run H). q.stacks.cursors) run.0,
     );
     before = before;
   } where
@@ -142,6 +143,7 @@ module _ {H : Type 0} (law : Law H) (p : View) (engine : Engine) (f : Activation
       lands = (
         omega (arith, ap (λ (q : Run H). length q.stacks.operands) run.0),
         ap (λ (q : Run H). q.stacks.handlers) run.0,
+        ap (λ (q : Run H). q.stacks.cursors) run.0,
       );
       before = before;
     }

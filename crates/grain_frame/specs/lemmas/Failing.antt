@@ -220,7 +220,7 @@ raises_here {H = H} law p engine f s s' n n' host x {rule} {ts} {takes} {gives} 
       lands : (q : Progress) → q ≡ progress.Failed → (y : EvalAltResult) (s' : Run H) →
           s' ≡ record s { fault = y } →
           ContinuesAt engine s f s' f ts takes gives s.stacks.handlers (Ok q)
-      lands q eq y s' es = rw (eq, es) (omega arith, refl)
+      lands q eq y s' es = rw (eq, es) (omega arith, refl, refl)
 raises_here law p engine f s s' n n' host x {rule} {ts} {takes} {gives} (Err e) h inside alike =
     rw (h.0, h.1) (record {
       same = raises_exactly f s s n n host x (Err e) (refl, refl) alike;

@@ -159,6 +159,6 @@ native_waits {H = H} law p engine f s t n k host mid {rule} {ts} {takes} {gives}
           this = (refl, refl);
           later = omega arith;
         };
-        lands = (leads, lends, tt, refl, refl, refl, refl);
+        lands = (leads, lends, tt, refl, refl, refl, refl, refl);
         before = before;
       }

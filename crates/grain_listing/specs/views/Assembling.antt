@@ -27,13 +27,16 @@ use Rattle.grain_listing.specs.Flags.{flag_of}
 use Rattle.grain_listing.specs.HostLines.{fail_of, stop_of}
 use Rattle.grain_listing.specs.Headers.{stack_of, assign_of, header_of}
 use Rattle.grain_listing.specs.ChainWords.{chain_of, step_of}
+use Rattle.grain_listing.specs.SwitchWords.{aim_of, switch_to, case_of, range_of}
 use Rattle.grain_program.specs.InstructionSet.{tag_of, fields_of}
 use Rattle.grain_listing.specs.Instructions.{kinds_of}
-use Rattle.grain_listing.specs.Table.{line_of, stands, is_block}
-use Rattle.grain_listing.specs.Statements.{Statement, with_step, last_steps, main_ended, functions_ended}
+use Rattle.grain_listing.specs.Table.{line_of, stands, is_block, takes_steps, takes_cases, opened_by}
+use Rattle.grain_listing.specs.Statements.{Statement, with_step, last_steps, with_case, with_range, last_cases, last_ranges, main_ended, functions_ended}
 use Rattle.grain_listing.specs.LineMeanings
 use Rattle.grain_listing.specs.LineMeanings.{limit_set, in_pool, in_list, before_colon, header_said}
 use Rattle.grain_listing.specs.declared.assembler.Fixup.{Fixup}
+use Rattle.grain_listing.specs.declared.switch_words.Aim.{Aim}
+use Rattle.grain_listing.specs.declared.switch_words.AimedSwitch.{AimedSwitch}
 use Rattle.grain_listing.specs.declared.blocks.OpenBlock.{OpenBlock}
 use Rattle.grain_listing.specs.declared.blocks.OpenBlock.TheVariants as blocks
 use Rattle.grain_listing.specs.declared.headers.AssignLine.{AssignLine}
@@ -41,6 +44,8 @@ use Rattle.grain_listing.specs.declared.table.Line.{Line}
 use Rattle.grain_listing.specs.declared.table.Line.TheVariants as lines
 use Rattle.grain_listing.specs.declared.table.OperandKind.{OperandKind}
 use Rattle.grain_listing.specs.declared.table.OperandKind.TheVariants as kinds
+use Rattle.grain_listing.specs.declared.table.Follows.{Follows}
+use Rattle.grain_listing.specs.declared.table.Follows.TheVariants as may
 use Rattle.grain_listing.specs.declared.table.Section.{Section}
 use Rattle.grain_listing.specs.declared.table.Section.TheVariants as sections
 
@@ -59,7 +64,9 @@ pub record AssemblerView : Type 0 where
   pub tokens : List Token
   pub assigns : List AssignLine
   pub chains : List Chain
-  pub in_chain : Bool
+  pub switches : List AimedSwitch
+  pub aims : List Aim
+  pub follows : Follows
   pub block : Option OpenBlock
   pub main : Chunk
   pub functions : List Function
@@ -84,7 +91,9 @@ empty =
       tokens = [];
       assigns = [];
       chains = [];
-      in_chain = false;
+      switches = [];
+      aims = [];
+      follows = may.Nothing;
       block = None;
       main = record { entry = 0; end = 0; max_stack = 0 };
       functions = [];
@@ -168,6 +177,10 @@ abbrev pub opened : ℕ → List ℕ → AssemblerView → Result AssemblerView 
 opened a cs v = and_then (header_of cs)
     (λ h. Ok (record v { section = sections.Block; block = Some (blocks.Function a h) }))
 
+-- an aim more, and these switches
+abbrev pub with_aim : Aim → List AimedSwitch → AssemblerView → AssemblerView
+with_aim a switches v = record v { switches = switches; aims = v.aims ++ a ∷ [] }
+
 -- a line that begins with a word of the table
 abbrev pub put_line : Line → List ℕ → AssemblerView → Result AssemblerView Reason
 put_line lines.Header cs v = Err OutOfPlace
@@ -191,9 +204,23 @@ put_line lines.Assign cs v =
 put_line lines.Chain cs v = in_pool v.chains
     (and_then (chain_of cs) (λ c. Ok (record v { chains = v.chains ++ c ∷ [] })))
 put_line lines.Step cs v =
-    if v.in_chain then
+    if takes_steps v.follows then
     in_pool (last_steps v.chains)
     (and_then (step_of cs) (λ s. Ok (record v { chains = with_step s v.chains })))
+    else Err OutOfPlace
+put_line lines.Switch cs v =
+    in_pool v.switches
+    (and_then (aim_of v.line cs) (λ a. Ok (with_aim a (v.switches ++ switch_to a ∷ []) v)))
+put_line lines.Case cs v =
+    if takes_cases v.follows then
+    in_pool (last_cases v.switches)
+    (and_then (case_of v.line cs) (λ c. Ok (with_aim c.aim (with_case c v.switches) v)))
+    else Err OutOfPlace
+put_line (lines.Range inclusive) cs v =
+    if takes_cases v.follows then
+    in_pool (last_ranges v.switches)
+    (and_then (range_of inclusive v.line cs)
+    (λ r. Ok (with_aim r.aim (with_range r v.switches) v)))
     else Err OutOfPlace
 put_line lines.Entry cs v = and_then (entry_of cs)
     (λ e. Ok (record v { scope = v.scope ++ e ∷ [] }))
@@ -235,23 +262,17 @@ known_line (Some l) w cs v = if stands l v.section then put_line l cs v else Err
 
 -- the header: `grain 1`
 abbrev pub with_header : Result Statement Reason → AssemblerView → Result AssemblerView Reason
-with_header (Ok s) v = Ok (record v { section = sections.Pools; in_chain = false })
+with_header (Ok s) v = Ok (record v { section = sections.Pools; follows = may.Nothing })
 with_header (Err e) v = Err e
 
 abbrev pub is_start : Section → Bool
 is_start sections.Start = true
 is_start s = false
 
--- steps may follow the line
-abbrev pub opens_chain : Option Line → Bool
-opens_chain (Some lines.Chain) = true
-opens_chain (Some lines.Step) = true
-opens_chain l = false
-
--- a line after the header; it says whether steps may follow
+-- a line after the header; it says what may follow
 abbrev pub put_known : Option Line → List ℕ → List ℕ → AssemblerView → Result AssemblerView Reason
 put_known l w cs v =
-    and_then (known_line l w cs v) (λ u. Ok (record u { in_chain = opens_chain l }))
+    and_then (known_line l w cs v) (λ u. Ok (record u { follows = opened_by l }))
 
 abbrev pub after_header : Option (List ℕ × List ℕ) → AssemblerView → Result AssemblerView Reason
 after_header None v = Err UnknownWord

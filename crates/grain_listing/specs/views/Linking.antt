@@ -1,12 +1,14 @@
 -- How the assembler's last state becomes what the listing says.
-use Rattle.std.specs.Prelude.{ℕ, ◌+◌, List, [], ◌∷◌, Result, Ok, Err, codes, slice_set}
+use Rattle.std.specs.Prelude.{ℕ, ◌+◌, List, [], ◌∷◌, map, Result, Ok, Err, codes, slice_set}
 use Rattle.std.specs.Int.{w32, to_le_bytes}
 use Rattle.grain_program.specs.declared.code.parts.AssignOp.{AssignOp}
+use Rattle.grain_program.specs.declared.code.switches.Switch.{Switch}
 use Rattle.grain_words.specs.Labels.{Addresses, address_of}
 use Rattle.grain_literals.specs.Steps.{and_then, present}
 use Rattle.grain_literals.specs.declared.reasons.Reason.TheVariants.{UnknownLabel}
 use Rattle.grain_listing.specs.Flags.{is_on}
 use Rattle.grain_listing.specs.Reading.{ListingView, bad_line, limits_of, caps_of, assign_ops_of, complete}
+use Rattle.grain_listing.specs.SwitchTargets.{all_known, linked_switch}
 use Rattle.grain_listing.specs.views.Assembling.{AssemblerView}
 use Rattle.grain_listing.specs.declared.assembler.Fixup.{Fixup}
 use Rattle.grain_listing.specs.declared.table.Section.{Section}
@@ -27,9 +29,9 @@ fill labels (f ∷ fs) code = and_then
     (present (bad_line f.line UnknownLabel) (address_of f.label labels))
     (λ a. fill labels fs (write_at f.at (to_le_bytes w32 a) code))
 
--- what the assembler has, with these op-assignments and this code
-abbrev pub set_up : AssemblerView → List AssignOp → List ℕ → ListingView
-set_up v assign_ops code =
+-- what the assembler has, with these op-assignments, these switches and this code
+abbrev pub set_up : AssemblerView → List AssignOp → List Switch → List ℕ → ListingView
+set_up v assign_ops switches code =
     record {
       parts = record {
         caps = caps_of v.caps;
@@ -41,6 +43,7 @@ set_up v assign_ops code =
         tokens = v.tokens;
         assign_ops = assign_ops;
         chains = v.chains;
+        switches = switches;
         positions = v.positions;
         source = v.source;
       };
@@ -51,13 +54,19 @@ set_up v assign_ops code =
       scope = v.scope;
     }
 
-abbrev pub filled : AssemblerView → List AssignOp → Result ListingView BadLine
-filled v assign_ops = and_then (fill v.labels v.fixups v.code)
-    (λ code. Ok (set_up v assign_ops code))
+abbrev pub filled : AssemblerView → List AssignOp → List Switch → Result ListingView BadLine
+filled v assign_ops switches =
+    and_then (fill v.labels v.fixups v.code) (λ code. Ok (set_up v assign_ops switches code))
+
+-- the same, with the assembler's own switches, once the labels of their aims are known
+abbrev pub linked : AssemblerView → List AssignOp → Result ListingView BadLine
+linked v assign_ops =
+    and_then (all_known (λ t. address_of t v.labels) v.aims) (λ _.
+    filled v assign_ops (map (linked_switch (λ t. address_of t v.labels)) v.switches))
 
 -- after the last line, the nth
 abbrev pub finish : ℕ → Section → AssemblerView → List AssignOp → Result ListingView BadLine
-finish n section v assign_ops = complete n section (filled v assign_ops)
+finish n section v assign_ops = complete n section (linked v assign_ops)
 
 abbrev pub ending : ℕ → AssemblerView → Result ListingView BadLine
 ending n v = and_then (assign_ops_of v.tokens v.assigns)

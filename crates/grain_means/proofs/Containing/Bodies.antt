@@ -15,7 +15,7 @@ use Rattle.grain_means.specs.Worlds.{Act, Go, Then, Answer, InFrame, Place, Setu
 use Rattle.grain_means.proofs.Caught.{placed_names}
 use Rattle.grain_means.proofs.Footing.{by_test}
 use Rattle.grain_means.proofs.Naming.{all_wider, bound_names, entry_wider}
-use Rattle.grain_means.proofs.Containing.Parts.{Operands}
+use Rattle.grain_means.proofs.Containing.Parts.{Operands, no_rest}
 use Rattle.grain_means.proofs.Containing.Leaving.{Bases, At, Holds, Leaves, fails_or, lowers, marks_or, takes_operation}
 use Rattle.grain_means.proofs.Containing.Keeping.{Kept, Since}
 
@@ -102,7 +102,7 @@ module _ {S : Type 0} {m : Setup S} (on : Bases m) where
             n,
             omega arith,
             inner,
-            (n, omega arith, inside w at, (tt, tt), refl),
+            (n, omega arith, inside w at, (tt, no_rest), refl),
             λ a v k le there named.
                 lowers m clean to n k (over a (record v { scope = w.scope; level = w.level })) le
                 (overs k le a (record v { scope = w.scope; level = w.level })

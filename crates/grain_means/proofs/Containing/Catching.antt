@@ -1,5 +1,5 @@
 -- A handler that catches keeps to the store.
-use Rattle.std.proofs.Common.{◌≡◌, ◌≤◌, ◌+◌, ℕ, [], ◌∷◌, ◌++◌, Option, Some, None, true, nat_lt, length, take, refl, arith}
+use Rattle.std.proofs.Common.{◌≡◌, ◌≤◌, ◌+◌, ◌-◌, ℕ, [], ◌∷◌, ◌++◌, Option, Some, None, true, nat_lt, length, take, refl, arith}
 use Rattle.grain_value.specs.Operands.{read_write}
 use Rattle.grain_value.specs.Scopes.{new_entry}
 use Rattle.grain_fault.specs.Classes.{catchable}
@@ -7,14 +7,14 @@ use Rattle.grain_fault.specs.Problems.{Problem, Plain, Malformed, TooManyVariabl
 use Rattle.grain_fault.specs.declared.faults.MalformedKind.TheVariants as kind
 use Rattle.grain_fault.specs.declared.places.Position.{Position}
 use Rattle.grain_program.specs.View.{name_of, position_of}
-use Rattle.grain_means.specs.Contained.{EntryNames, HeldNames, ProblemNames}
+use Rattle.grain_means.specs.Contained.{CursorNames, EntryNames, HeldNames, ProblemNames}
 use Rattle.grain_fault.specs.CatchValues.{caught_value}
 use Rattle.grain_means.specs.Rules as rules
 use Rattle.grain_means.specs.Rules.{catching, resumed, bound, is_full}
 use Rattle.grain_means.specs.Worlds.{Act, Go, Frame, Handler, InFrame, Setup, World}
 use Rattle.grain_means.proofs.Caught.{caught_names}
 use Rattle.grain_means.proofs.Footing.{by_test}
-use Rattle.grain_means.proofs.Naming.{all_joined, all_take}
+use Rattle.grain_means.proofs.Naming.{all_drop, all_joined, all_take}
 use Rattle.grain_means.proofs.Containing.Parts.{FrameNames}
 use Rattle.grain_means.proofs.Containing.Frames.{Grounds, cut, goes, leaves, marks, none_plain, charges}
 use Rattle.grain_means.proofs.Containing.Steps.{Stays, Here}
@@ -68,7 +68,11 @@ module _ {S : Type 0} {m : Setup S} (on : Grounds m) where
           caught_frame : FrameNames clean n g
           caught_frame = (
             all_take (HeldNames clean n) h.operands f.operands names.0,
-            (bound, names.1),
+            record {
+              handlers = (bound, names.1.handlers);
+              cursors = all_drop (CursorNames clean n) (length f.cursors - h.cursors) f.cursors
+                  names.1.cursors;
+            },
           )
 
           escapes : (f' : Frame) (y : Problem) (v : World S) → Here on n low f names v →

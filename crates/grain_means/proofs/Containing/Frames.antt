@@ -25,7 +25,7 @@ use Rattle.grain_means.proofs.Caught.{placed_names}
 use Rattle.grain_means.proofs.Footing.{by_arming, by_test}
 use Rattle.grain_means.proofs.Inside.{may_put}
 use Rattle.grain_means.proofs.Naming.{all_take, flat_all_names, flat_names, held_at_names, pushed_names, set_names}
-use Rattle.grain_means.proofs.Containing.Parts.{CaughtNames, HandlerNames, Operands, Arguments, FrameNames, MayStand}
+use Rattle.grain_means.proofs.Containing.Parts.{CaughtNames, Operands, Arguments, FrameNames, MayStand, RestNames}
 use Rattle.grain_means.proofs.Containing.Keeping.{HoldsNone, Kept, Since}
 use Rattle.grain_means.proofs.Containing.Leaving.{Bases, Holds, Leaves, cell_set, lowers, root_put, takes_operation}
 
@@ -125,20 +125,24 @@ module _ {S : Type 0} {m : Setup S} (on : Grounds m) where
       at false = q
 
     offers : (hs : List Handler) (f : Frame) (x : Problem) (w : World S) → At n w →
-        Operands clean n f.operands → AllByRecursion (HandlerNames clean n) hs → ProblemNames clean
-        n x → Keeps (rules.offered_to m hs f x w)
+        Operands clean n f.operands → RestNames clean n hs f.cursors → ProblemNames clean n x →
+        Keeps (rules.offered_to m hs f x w)
     offers [] f x w at ops names bound = leaves f x w at bound
     offers (h ∷ hs) f x w at ops names bound =
+        let outer : RestNames clean n hs f.cursors = record {
+          handlers = names.handlers.1;
+          cursors = names.cursors;
+        } in
         by_arming m Keeps h.caught
         (if catchable x then Go (InCatch (record f { handlers = hs }) h x) w
         else rules.leave_by_fault m f x w)
         (λ y. rules.offered_to m hs f (thrown_anew y x) w)
         (λ none. by_test Keeps (catchable x) (Go (InCatch (record f { handlers = hs }) h x) w)
         (rules.leave_by_fault m f x w)
-        (λ may. (n, omega arith, at, ((ops, names.1), bound, may), on.free))
+        (λ may. (n, omega arith, at, ((ops, outer), bound, may), on.free))
         (λ may. leaves f x w at bound))
-        (λ y is. offers hs f (thrown_anew y x) w at ops names.1
-        (anew y x (subst (CaughtNames clean n) is names.0) bound))
+        (λ y is. offers hs f (thrown_anew y x) w at ops outer
+        (anew y x (subst (CaughtNames clean n) is names.handlers.0) bound))
 
     module _ (f : Frame) (names : FrameNames clean n f) where
       pub offered : (x : Problem) (w : World S) → At n w → ProblemNames clean n x →

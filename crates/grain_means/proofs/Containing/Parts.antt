@@ -15,10 +15,10 @@ use Rattle.grain_fault.specs.Exits.{exit_value}
 use Rattle.grain_fault.specs.Problems.{Problem, Plain, InFunctionCall, InModule, SystemError, NoMemory, Exit, DotExpr, FunctionNotFound, IndexingType}
 use Rattle.grain_fault.specs.declared.places.Position.{Position}
 use Rattle.grain_host.specs.Law.{Reply, Verdict, reply_bound, reply_is_clean, verdict_bound, verdict_is_clean}
-use Rattle.grain_means.specs.Contained.{HeldNames, Names, ProblemNames}
+use Rattle.grain_means.specs.Contained.{CursorNames, HeldNames, Names, ProblemNames}
 use Rattle.grain_means.specs.Rules.{Home, InScope, InCell, AtPlace, Receiver, bound, held_at}
 use Rattle.grain_host.specs.Signatures.{index_text, not_found, signature_text, type_at, unknown_property, unwritable_property}
-use Rattle.grain_means.specs.Worlds.{Frame, Handler}
+use Rattle.grain_means.specs.Worlds.{Cursor, Frame, Handler}
 use Rattle.grain_means.proofs.Caught.{first_names}
 use Rattle.grain_means.proofs.Inside.{MayPut, may_put, put_clear, put_written}
 use Rattle.grain_means.proofs.Naming.{CellHolds, all_got, PlainNames, Stands}
@@ -38,9 +38,18 @@ Operands clean n hs = AllByRecursion (HeldNames clean n) hs
 abbrev pub Arguments : Bool → ℕ → List Held → Type 0
 Arguments clean n hs = AllByRecursion (Stands clean n) hs
 
+-- the handlers and the cursors of a frame
+pub record RestNames (clean : Bool) (n : ℕ) (hs : List Handler) (cs : List Cursor) : Type 0 where
+  pub handlers : AllByRecursion (HandlerNames clean n) hs
+  pub cursors : AllByRecursion (CursorNames clean n) cs
+
+-- of a frame that was just entered
+pub no_rest : {clean : Bool} {n : ℕ} → RestNames clean n [] []
+no_rest = record { handlers = tt; cursors = tt }
+
 abbrev pub FrameNames : Bool → ℕ → Frame → Type 0
-FrameNames clean n f = Operands clean n f.operands × AllByRecursion (HandlerNames clean n)
-    f.handlers
+FrameNames clean n f =
+    Operands clean n f.operands × RestNames clean n f.handlers f.cursors
 
 -- what may be written so: a cell, and a place, hold none
 abbrev pub MayStand : Home → Dynamic → Type 0

@@ -2,13 +2,15 @@
 use Rattle.std.proofs.Common.{◌≡◌, ◌≤◌, ◌+◌, ℕ, List, Option, Some, None, refl, arith}
 use Rattle.grain_value.specs.Looking.{cell_of}
 use Rattle.grain_value.specs.Operands.{below, top}
+use Rattle.grain_value.specs.Tree.{Tree}
+use Rattle.grain_value.specs.View.{value_of}
 use Rattle.grain_value.specs.declared.values.Dynamic.{Dynamic}
 use Rattle.grain_value.specs.declared.values.Held.{Held}
 use Rattle.grain_fault.specs.Problems.{Problem, NoMemory}
-use Rattle.grain_means.specs.Contained.{HeldNames, Names, ProblemNames}
+use Rattle.grain_means.specs.Contained.{CursorNames, HeldNames, Names, ProblemNames}
 use Rattle.grain_means.specs.Rules as rules
 use Rattle.grain_means.specs.Rules.{Home, Receiver, bound, given, held_at, stepped}
-use Rattle.grain_means.specs.Worlds.{Act, Frame, Handler, Setup, World}
+use Rattle.grain_means.specs.Worlds.{Act, Cursor, Frame, Handler, Setup, World}
 use Rattle.grain_means.proofs.Naming.{all_wider, held_wider, top_names, under_names}
 use Rattle.grain_means.proofs.Containing.Parts.{CaughtNames, HandlerNames, Operands, Arguments, FrameNames, MayStand, ReceiverNames, LendsPlain}
 use Rattle.grain_means.proofs.Containing.Frames.{Grounds, At, Within, bases, leaves, marks, raises, onward, reads, looks, writes, pushes}
@@ -21,7 +23,12 @@ module _ {S : Type 0} {m : Setup S} (on : Grounds m) where
   pub frame_wider : (n k : ℕ) (f : Frame) → n ≤ k → FrameNames clean n f → FrameNames clean k f
   frame_wider n k f le names = (
     all_wider (HeldNames clean n) (HeldNames clean k) (held_wider clean n k le) f.operands names.0,
-    all_wider (HandlerNames clean n) (HandlerNames clean k) handler_wider f.handlers names.1,
+    record {
+      handlers = all_wider (HandlerNames clean n) (HandlerNames clean k) handler_wider f.handlers
+          names.1.handlers;
+      cursors = all_wider (CursorNames clean n) (CursorNames clean k) cursor_wider f.cursors
+          names.1.cursors;
+    },
   ) where
     caught_wider : (c : Option Problem) → CaughtNames clean n c → CaughtNames clean k c
     caught_wider None h = tt
@@ -29,6 +36,14 @@ module _ {S : Type 0} {m : Setup S} (on : Grounds m) where
 
     handler_wider : (h : Handler) → HandlerNames clean n h → HandlerNames clean k h
     handler_wider h p = caught_wider h.caught p
+
+    item_wider : (t : Tree) → Names clean n (value_of t) → Names clean k (value_of t)
+    item_wider t h = (omega (arith, h.0, le), h.1)
+
+    cursor_wider : (c : Cursor) → CursorNames clean n c → CursorNames clean k c
+    cursor_wider c p =
+        all_wider (λ t. Names clean n (value_of t)) (λ t. Names clean k (value_of t)) item_wider
+        c.left p
 
   module _ (n : ℕ) (low : least ≤ n) (f : Frame) (names : FrameNames clean n f) where
     abbrev pub Stays : Act S → Type 0

@@ -1,6 +1,6 @@
 -- The walk at an instruction: the faults that it raises, the cells that it finds lent, the
 -- operations that it is charged, and how its frame goes on.
-use Rattle.std.proofs.Common.{◌≡◌, ◌≤◌, ◌<◌, ◌⊎◌, ℕ, ◌+◌, ◌-◌, List, [], Option, Some, None, false, refl, sym, subst, ap, inl, inr, length, nat_lt, nat_le}
+use Rattle.std.proofs.Common.{◌≡◌, ◌≤◌, ◌<◌, ◌⊎◌, ℕ, ◌+◌, ◌-◌, List, [], Option, Some, None, false, refl, sym, subst, ap, inl, inr, length, nat_lt, nat_le, arith}
 use Rattle.std.proofs.lemmas.Bool.{ltb-true, ltb-false, leb-true}
 use Rattle.grain_value.specs.declared.values.Dynamic.{Dynamic}
 use Rattle.grain_value.specs.declared.values.Held.{Held}
@@ -15,7 +15,9 @@ use Rattle.grain_program.specs.declared.code.instruction_set.Op.{Op}
 use Rattle.grain_program.specs.declared.code.instruction_set.Op.TheVariants as op
 use Rattle.grain_program.specs.declared.code.effects.Handling.{Handling}
 use Rattle.grain_program.specs.declared.code.effects.Handling.TheVariants as handling
-use Rattle.grain_program.specs.Effects.{takes_of, gives_of, leads_of, handling_of}
+use Rattle.grain_program.specs.declared.code.effects.Looping.{Looping}
+use Rattle.grain_program.specs.declared.code.effects.Looping.TheVariants as looping
+use Rattle.grain_program.specs.Effects.{advances, cursors_given, cursors_taken, takes_of, gives_of, leads_of, handling_of, looping_of}
 use Rattle.grain_program.specs.Shapes.{handled}
 use Rattle.grain_program.specs.Typing.{In, IsProgram}
 use Rattle.grain_program.specs.Decoding.{op_at}
@@ -144,7 +146,8 @@ module _ {S : Type 0} {m : Setup S} (walk : Walk m) where
         Even walk r (offered m (stepping walk slot position operands) x w)
     even_offered_at slot position operands enough r x w blame s offers =
         even_offered walk [] f.handlers refl sits.3 slot position operands
-        (λ valid. fits_covered m.program valid f o width stands operands enough (sits.2 valid)) r
+        (λ valid. fits_covered m.program valid f o width stands operands enough f.cursors (omega arith)
+        (sits.2 valid)) r
         x w (λ unit. tt) blame s (λ stays. offers.0, offers.1)
 
     pub even_offered_in : (operands : List Held) → Enough walk o operands → (r : ℕ) (x : Problem)
@@ -215,30 +218,42 @@ module _ {S : Type 0} {m : Setup S} (walk : Walk m) where
         even_race_in operands enough [] (inl (lent e)) (now.ran + 1) (start walk) (steady walk)
     even_flat_all operands enough hs lent go rest (Some vs) e = rest vs e
 
-    -- the frame goes on at an address to which the instruction leads, with as many operands and
-    -- with such handlers as it leaves
-    pub fits_on : (g : Frame) → In g.address (leads_of o (f.address + width)) →
-        (takes_of m.program o ≤ length f.operands →
-        length g.operands ≡ length f.operands - takes_of m.program o + gives_of o) →
-        tries g.handlers ≡
-        handled (handling_of o) (length f.operands - takes_of m.program o + gives_of o)
-        (tries f.handlers) →
-        IsProgram m.program → Fitting m.program g
-    fits_on g to many handlers valid =
-        fits_next m.program valid f o width stands g to many handlers (sits.2 valid)
+    -- how many operands and how many cursors the instruction leaves
+    abbrev pub left : ℕ
+    left = length f.operands - takes_of m.program o + gives_of o
 
-    -- the same with the handlers that it has
-    pub sits_at : handling_of o ≡ handling.Keep → (a : ℕ) (operands : List Held) →
-        In a (leads_of o (f.address + width)) →
-        (takes_of m.program o ≤ length f.operands →
-        length operands ≡ length f.operands - takes_of m.program o + gives_of o) →
+    abbrev pub loops_left : ℕ
+    loops_left = length f.cursors - cursors_taken (looping_of o) + cursors_given (looping_of o)
+
+    -- the frame goes on at an address to which the instruction leads, with as many operands and cursors
+    -- and with such handlers as it leaves
+    pub fits_on : advances (looping_of o) ≡ false → (g : Frame) →
+        In g.address (leads_of m.program o (f.address + width)) →
+        (takes_of m.program o ≤ length f.operands → length g.operands ≡ left) →
+        (cursors_taken (looping_of o) ≤ length f.cursors → length g.cursors ≡ loops_left) →
+        tries g.handlers ≡ handled (handling_of o) left loops_left (tries f.handlers) →
+        IsProgram m.program → Fitting m.program g
+    fits_on even g to many loops handlers valid =
+        fits_next m.program valid f o width stands even g to many loops handlers (sits.2 valid)
+
+    -- the instruction leaves the handlers and the cursors
+    abbrev pub KeepsBoth : Type 0
+    KeepsBoth = (handling_of o ≡ handling.Keep) × (looping_of o ≡ looping.Keep)
+
+    -- the same with the handlers and the cursors that it has
+    pub sits_at : KeepsBoth → (a : ℕ) (operands : List Held) →
+        In a (leads_of m.program o (f.address + width)) →
+        (takes_of m.program o ≤ length f.operands → length operands ≡ left) →
         Sits m root k (stepped f a operands)
     sits_at kept a operands to many = (
       sits.0,
       sits.1,
-      fits_on (stepped f a operands) to many
-          (ap (λ (how : Handling). handled how (length f.operands - takes_of m.program o + gives_of o)
-          (tries f.handlers)) (sym kept)),
+      fits_on (ap advances kept.1) (stepped f a operands) to many
+          (λ there. subst (λ (l : Looping).
+          length f.cursors ≡ length f.cursors - cursors_taken l + cursors_given l)
+          (sym kept.1) (omega arith))
+          (ap (λ (how : Handling). handled how left loops_left (tries f.handlers))
+          (sym kept.0)),
       sits.3,
       sits.4,
     )

@@ -141,6 +141,8 @@ module _ {S : Type 0} {m : Setup S} (walk : Walk m) where
       target = target;
       variable = variable;
       operands = length f.operands;
+      cursors = length f.cursors;
+      totals = length f.totals;
       scope = length now.scope;
       caught = None;
     } ∷ f.handlers;
@@ -183,7 +185,7 @@ module _ {S : Type 0} {m : Setup S} (walk : Walk m) where
   pub even_offered : (inside hs : List Handler) → f.handlers ≡ inside ++ hs →
       Guarded m root k hs → (slot : Option ℕ) (position : Option Position)
       (operands : List Held) →
-      (IsProgram m.program → Covered m.program operands (tries hs)) → (r : ℕ) (x : Problem)
+      (IsProgram m.program → Covered m.program operands f.cursors (tries hs)) → (r : ℕ) (x : Problem)
       (w : World S) → (throws_unit x ≡ true → HaveCaughtUnit inside) → Blame slot x → Steady r w →
       OffersTo m root k.level f.handlers hs x w →
       Even r (offered_to m hs (stepping slot position operands) x w)
@@ -225,7 +227,7 @@ module _ {S : Type 0} {m : Setup S} (walk : Walk m) where
       (λ _. even_left_at on r x w refl (inl refl) sits.1 blame s (offers.0 (λ unit. none))))
       (λ y e. even_offered (inside ++ h ∷ []) hs (split ∙ sym (append_assoc inside (h ∷ []) hs))
       g.2 slot position operands
-      (λ valid. covered_outside m.program operands (try_of h) (tries hs) (covered valid)) r
+      (λ valid. covered_outside m.program operands f.cursors (try_of h) (tries hs) (covered valid)) r
       (thrown_anew y x) w (left_so_far m inside h x y left e) (blame_anew slot x y blame) s
       (offers_anew m root k.level f.handlers inside hs h y
       (subst (HasCaught m root k.level h) e g.1) split x w left offers))

@@ -66,11 +66,11 @@ module _ {S : Type 0} {m : Setup S} (walk : Walk m) where
     even_pushed name args operands u (Gave v) says asks = even_on walk o width stands _ refl (u v)
     even_pushed name args operands u (ArithmeticFault t) says asks =
         even_raised walk o width stands (now.ran + 1) _ (start walk) (steady walk)
-        (why walk o width stands (Plain (problem.Arithmetic t) (position m f)) refl (
+        (why walk o width stands (Plain (problem.Arithmetic t) (position m f)) refl (inl (
           name,
           args,
           says,
-        ))
+        )))
     even_pushed name args operands u (TooLarge t) says asks =
         even_raised walk o width stands (now.ran + 1) _ (start walk) (steady walk)
         (why walk o width stands (Plain (problem.DataTooLarge t) (position m f)) refl (
@@ -222,11 +222,11 @@ module _ {S : Type 0} {m : Setup S} (walk : Walk m) where
         even_home walk o width stands h name home is (record h { value = r }) on lent
     even_stored a op_name name args h u v home is on lent answers (ArithmeticFault t) says by_host =
         even_raised walk o width stands (now.ran + 1) _ (start walk) (steady walk)
-        (why walk o width stands (Plain (problem.Arithmetic t) (position m f)) refl (
+        (why walk o width stands (Plain (problem.Arithmetic t) (position m f)) refl (inl (
           op_name,
           args,
           says,
-        ))
+        )))
     even_stored a op_name name args h u v home is on lent answers (TooLarge t) says by_host =
         even_raised walk o width stands (now.ran + 1) _ (start walk) (steady walk)
         (why walk o width stands (Plain (problem.DataTooLarge t) (position m f)) refl (

@@ -1,5 +1,5 @@
 -- The walk through transfers, the cut of a scope, and the push of a handler.
-use Rattle.std.proofs.Common.{◌≡◌, ◌≤◌, ℕ, ◌+◌, [], Option, Some, None, Bool, true, false, refl, subst, ap, ◌∙◌, inl, length, take, nat_lt}
+use Rattle.std.proofs.Common.{◌≡◌, ◌≤◌, ℕ, ◌+◌, ◌-◌, List, [], ◌∷◌, Option, Some, None, Bool, true, false, refl, subst, ap, ◌∙◌, inl, arith, length, take, nat_lt}
 use Rattle.std.specs.Prelude.{codes}
 use Rattle.std.proofs.lemmas.Bool.{ltb-true}
 use Rattle.grain_value.specs.declared.values.Dynamic.{Dynamic}
@@ -10,11 +10,13 @@ use Rattle.grain_fault.specs.declared.faults.MalformedKind.TheVariants as kind
 use Rattle.grain_fault.specs.Problems.{Plain}
 use Rattle.grain_fault.specs.Problems as problem
 use Rattle.grain_program.specs.declared.code.instruction_set.Op.{Op}
+use Rattle.grain_program.specs.Shapes.{TryHandler}
 use Rattle.grain_program.specs.Typing.{IsProgram}
 use Rattle.grain_program.specs.Decoding.{op_at}
 use Rattle.grain_value.specs.Cells.{flat}
 use Rattle.grain_means.specs.Worlds.{Setup}
 use Rattle.grain_means.specs.Rules.{push_handler, stepped, agrees, branched, tested, skip, unwind, position, jump_if}
+use Rattle.grain_means.specs.Comes.{tries}
 use Rattle.grain_means.specs.Causes.{Charges, Unwinds, Tests, ReadsLent, IsLent, truth_on_top, truth_read}
 use Rattle.grain_means.proofs.Ground.{stays_cut}
 use Rattle.grain_means.proofs.Standing.{Fitting}
@@ -31,6 +33,19 @@ agreed false false e = refl
 
 module _ {S : Type 0} {m : Setup S} (walk : Walk m) where
   open walk use {root, footing as k, frame as f, now, tokens, level, trace, keeps, sits}
+
+  -- a handler that was pushed, as a typing has it
+  abbrev with_try : ℕ → Option ℕ → ℕ → ℕ → List TryHandler
+  with_try target variable height cursors =
+      record { target = target; variable = variable; height = height; cursors = cursors }
+      ∷ tries f.handlers
+
+  pub pushed_tries : (target : ℕ) (variable : Option ℕ) →
+      with_try target variable (length f.operands) (length f.cursors) ≡
+      with_try target variable (length f.operands - 0 + 0) (length f.cursors - 0 + 0)
+  pushed_tries target variable =
+      ap (λ n. with_try target variable n (length f.cursors)) (omega arith)
+      ∙ ap (λ n. with_try target variable (length f.operands - 0 + 0) n) (omega arith)
 
   -- the rules of an instruction that stands where the frame does
   module _ (o : Op) (width : ℕ) (stands : op_at m.program.code f.address ≡ Some (o, width)) where

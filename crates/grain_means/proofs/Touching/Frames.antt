@@ -123,7 +123,7 @@ module _ {S : Type 0} (m : Setup S) (t : Option Place) (old : List Held) where
         (λ free. marks f w (λ w1. go (record w1 { cells = slice_set w1.cells i (idle h) })) at
         (going (record w { passed = w.passed + 1; cells = slice_set w.cells i (idle h) }) at))
 
-    writes : (a : Home) → MayAt a → (h : Held) (name : List ℕ) (w : World S) → At w →
+    pub writes : (a : Home) → MayAt a → (h : Held) (name : List ℕ) (w : World S) → At w →
         (go : World S → Act S) → ((w : World S) → At w → Stays (go w)) →
         Stays (rules.written_at m a h name f w go)
     writes (InScope i) may h name w at go going =

@@ -43,7 +43,7 @@ module _ {S : Type 0} (m : Setup S) (t : Option Place) (old : List Held) (f : Fr
   refuses = raises m t old f is
 
   -- entries of the scope
-  may_entry : (i : ℕ) (c : Option ℕ) → MayAt m t old (in_entry i c)
+  pub may_entry : (i : ℕ) (c : Option ℕ) → MayAt m t old (in_entry i c)
   may_entry i None = tt
   may_entry i (Some j) = tt
 

@@ -1,22 +1,27 @@
 -- What an instruction does and finds where it raises a fault: which instructions call, charge an
 -- operation, use an entry, read, operate and throw.
 pub use Rattle.grain_means.specs.Causes.Pointers.{IsMethodCall, IsLent, Points, PointsNowhere, PointsFirst, HasReceiver, receiver, args_beside, function_beside, CallsPointed, CallsUnder, MissesPointed, AsksEither, PointedReadsLent, FirstReadsLent, MethodReadsLent}
-use Rattle.std.specs.Prelude.{◌≡◌, ◌⊎◌, ◌<◌, ◌≤◌, ◌+◌, ℕ, List, [], ◌∷◌, Option, Some, None, Bool, true, false, length, codes}
+use Rattle.std.specs.Prelude.{◌≡◌, ◌⊎◌, ◌<◌, ◌≤◌, ◌+◌, ◌+ℤ◌, ℕ, ℤ, pos, List, [], ◌∷◌, Option, Some, None, Bool, true, false, length, codes}
 use Rattle.grain_value.specs.declared.values.Dynamic.{Dynamic}
 use Rattle.grain_value.specs.declared.values.Held.{Held}
 use Rattle.grain_value.specs.Cells.{flat}
 use Rattle.grain_value.specs.Looking.{truth_of, is_unit, cell_of, pointer_of}
-use Rattle.grain_value.specs.Operands.{top, arguments}
+use Rattle.grain_value.specs.Items.{items_of}
+use Rattle.grain_value.specs.Operands.{top, arguments, read_write}
+use Rattle.grain_value.specs.Tree.{Tree}
+use Rattle.grain_value.specs.View.{value_of}
 use Rattle.grain_value.specs.Writing.{type_name_of}
 use Rattle.grain_program.specs.declared.code.instruction_set.Op.{Op}
 use Rattle.grain_program.specs.declared.code.instruction_set.Op.TheVariants as op
 use Rattle.grain_program.specs.declared.code.functions.Function.{Function}
-use Rattle.grain_program.specs.View.{View, name_of, assign_op_of}
+use Rattle.grain_program.specs.View.{View, name_of, assign_op_of, switch_of}
+use Rattle.grain_program.specs.Switches.{switch_target}
+use Rattle.grain_ops.specs.Calculations.{fits64}
 use Rattle.grain_ops.specs.Outcomes.{Outcome, NotBuiltIn}
 use Rattle.grain_means.specs.Worlds.{World, Setup, Frame, Place}
 use Rattle.grain_means.specs.Places.{look}
 use Rattle.grain_host.specs.Law.{GoOn}
-use Rattle.grain_means.specs.Rules.{name_at, flat_all, operand_under, is_read_only, held_at, function_found, operated, op_assigned}
+use Rattle.grain_means.specs.Rules.{name_at, counter_text, flat_all, innermost_cursor, operand_under, is_read_only, held_at, function_found, operated, op_assigned}
 
 -- the truth value that is read, if it is one
 abbrev pub truth_read : Option Dynamic → Option Bool
@@ -46,14 +51,36 @@ CallsFunction program g args o f w =
 abbrev pub Calls : {S : Type 0} → View → Op → Frame → World S → Type 0
 Calls program o f w = (g : Function) × (args : List Held) × CallsFunction program g args o f w
 
--- it costs an operation: a transfer that is taken to a target that does not lie ahead, a call of a
--- function that exists, or a tick
+-- the innermost loop has no item left
+abbrev pub IsOver : Frame → Type 0
+IsOver f = (innermost_cursor f.cursors).left ≡ []
+
+-- the innermost loop has this item, before others, which can be counted
+abbrev pub HasNext : Tree → Frame → Type 0
+HasNext t f = (ts : List Tree) × ((innermost_cursor f.cursors).left ≡ t ∷ ts)
+    × (fits64 ((innermost_cursor f.cursors).counter +ℤ pos 1) ≡ true)
+
+-- the innermost loop has an item, of which the count passes 64 bits, and had this count
+abbrev pub CountsPast : ℤ → Frame → Type 0
+CountsPast n f = (n ≡ (innermost_cursor f.cursors).counter) × (IsOver f → ⊥)
+    × (fits64 (n +ℤ pos 1) ≡ false)
+
+-- a switch leads to a target that does not lie ahead
+abbrev pub SwitchesBack : {S : Type 0} → View → ℕ → Frame → World S → Type 0
+SwitchesBack program k f w = (v : Dynamic) × (flat w.cells (top f.operands).value ≡ Some v)
+    × (switch_target (switch_of program k) v ≤ f.address)
+
+-- it costs an operation: a transfer that is taken to a target that does not lie ahead, also where a loop
+-- is left, a call of a function that exists, or a tick
 abbrev pub Charges : {S : Type 0} → View → Op → Frame → World S → Type 0
 Charges program (op.Jump t) f w = t ≤ f.address
 Charges program (op.JumpIfFalse t) f w = (t ≤ f.address) × (truth_on_top f w ≡ Some false)
 Charges program (op.JumpIfTrue t) f w = (t ≤ f.address) × (truth_on_top f w ≡ Some true)
 Charges program (op.SkipIfNotUnit t) f w =
     (t ≤ f.address) × (is_unit (top f.operands).value ≡ false)
+Charges program (op.Switch k) f w = SwitchesBack program k f w
+Charges program (op.IterNext t) f w = (t ≤ f.address) × IsOver f
+Charges program (op.IterNextIndexed t s) f w = (t ≤ f.address) × IsOver f
 Charges program (op.Call n k) f w = Calls program (op.Call n k) f w
 Charges program (op.CallFnPtr n) f w = Calls program (op.CallFnPtr n) f w
 Charges program (op.CallFnPtrMethod n) f w = Calls program (op.CallFnPtrMethod n) f w
@@ -92,8 +119,8 @@ Overfills m (op.CallFnPtrOnLocal n slot) f w = HasTooMany m (op.CallFnPtrOnLocal
 Overfills m (op.CallFnPtrOnThis n) f w = HasTooMany m (op.CallFnPtrOnThis n) f w
 Overfills m o f w = ⊥
 
--- it reads or writes the entry at this index, by its slot; a call with a receiver writes it once the call
--- is over
+-- it reads or writes the entry at this index, by its slot; a loop writes it once an item is counted, and a
+-- call with a receiver once the call is over
 abbrev pub UsesEntry : {S : Type 0} → ℕ → Op → Frame → World S → Type 0
 UsesEntry i (op.LoadLocal s) f w = i ≡ f.base + s
 UsesEntry i (op.StoreLocal s) f w = i ≡ f.base + s
@@ -103,6 +130,7 @@ UsesEntry i (op.LoadShared s) f w = i ≡ f.base + s
 UsesEntry i (op.Share s) f w = i ≡ f.base + s
 UsesEntry i (op.AssignLocal s n) f w = i ≡ f.base + s
 UsesEntry i (op.AssignLocalOp s n a) f w = i ≡ f.base + s
+UsesEntry i (op.IterNextIndexed t s) f w = (i ≡ f.base + s) × ((u : Tree) × HasNext u f)
 UsesEntry i (op.CallFnPtrOnLocal n s) f w = (i ≡ f.base + s) × HasReceiver n f w
 UsesEntry i o f w = ⊥
 
@@ -225,6 +253,22 @@ abbrev pub AssignsLentThis : {S : Type 0} → Frame → World S → Type 0
 AssignsLentThis f w = IsLent w (top f.operands)
     ⊎ ((h : Held) × HoldsThis f w h × (is_read_only w h ≡ false) × IsLent w h)
 
+-- the item that the innermost loop gives next is a lent cell
+abbrev pub GivesLent : {S : Type 0} → Frame → World S → Type 0
+GivesLent f w = (t : Tree) × HasNext t f × IsLent w (read_write (value_of t))
+
+-- it asks for something to go over, and reads a value that has no items
+abbrev pub GoesOverNone : {S : Type 0} → Op → Frame → World S → Type 0
+GoesOverNone op.IterInit f w = (v : Dynamic) × (flat w.cells (top f.operands).value ≡ Some v)
+    × (items_of v ≡ None)
+GoesOverNone o f w = ⊥
+
+-- it counts an item past 64 bits, and says so
+abbrev pub CountsTooFar : List ℕ → Op → Frame → Type 0
+CountsTooFar s (op.IterNext t) f = (n : ℤ) × CountsPast n f × (s ≡ counter_text n)
+CountsTooFar s (op.IterNextIndexed t slot) f = (n : ℤ) × CountsPast n f × (s ≡ counter_text n)
+CountsTooFar s o f = ⊥
+
 -- it reads or writes a cell whose content is lent, at the variable of this name
 abbrev pub ReadsLent : {S : Type 0} → View → List ℕ → Op → Frame → World S → Type 0
 ReadsLent program name (op.LoadLocal s) f w = (name ≡ name_at w.scope (f.base + s)) ×
@@ -244,6 +288,12 @@ ReadsLent program name op.AssignThis f w = (name ≡ []) × AssignsLentThis f w
 ReadsLent program name (op.AssignThisOp a) f w = (name ≡ []) × AssignsLentThis f w
 ReadsLent program name (op.JumpIfFalse t) f w = (name ≡ []) × IsLent w (top f.operands)
 ReadsLent program name (op.JumpIfTrue t) f w = (name ≡ []) × IsLent w (top f.operands)
+ReadsLent program name (op.Switch k) f w = (name ≡ []) × IsLent w (top f.operands)
+ReadsLent program name op.IterInit f w = (name ≡ []) × IsLent w (top f.operands)
+ReadsLent program name (op.IterNext t) f w = (name ≡ []) × GivesLent f w
+ReadsLent program name (op.IterNextIndexed t s) f w = (name ≡ []) ×
+    ((h : Held) × (held_at w.scope (f.base + s) ≡ Some h) × ((u : Tree) × HasNext u f) ×
+    (IsLent w h ⊎ GivesLent f w))
 ReadsLent program name (op.Call n k) f w = (name ≡ []) × (function_found program n k ≡ None) ×
     (flat_all w.cells (arguments k f.operands) ≡ None)
 ReadsLent program name (op.CallOp n k t) f w =

@@ -1,6 +1,6 @@
 -- The spots to which the walk of a chain comes, and what it finds there where it ends in a fault.
 pub use Rattle.grain_means.specs.Causes.Answers.{past, Passes, question_of, answered_world, CallAsks, call_asked, call_start, CallEnds, lent, missing, refused, gave, failed, asked_gave, asked_failed, asked_out, IsReason, IsLeft, asking_world, on_values, resolved, InvocationEnds, by_function, by_native, by_nothing}
-use Rattle.std.specs.Prelude.{◌≡◌, ◌⊎◌, ◌+◌, codes, length, ℕ, ℤ, List, [], ◌∷◌, ◌++◌, Option, Some, None, Bool, true, false, Err, drop, map, option_map, take}
+use Rattle.std.specs.Prelude.{◌≡◌, ◌⊎◌, ◌+◌, codes, length, ℕ, ℤ, List, [], ◌∷◌, ◌++◌, Option, Some, None, Bool, true, false, Err, drop, option_map, take}
 use Rattle.grain_value.specs.Cells.{flat}
 use Rattle.grain_value.specs.Locating.{locate}
 use Rattle.grain_value.specs.Looking.{pointer_of}

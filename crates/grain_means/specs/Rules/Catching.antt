@@ -1,5 +1,5 @@
 -- A handler is pushed, and catches a fault.
-use Rattle.std.specs.Prelude.{ℕ, [], ◌∷◌, ◌++◌, Option, Some, None, if◌then◌else◌, nat_lt, length, take}
+use Rattle.std.specs.Prelude.{ℕ, ◌-◌, List, [], ◌∷◌, ◌++◌, Option, Some, None, if◌then◌else◌, nat_lt, length, take, drop}
 use Rattle.grain_value.specs.Scopes.{new_entry}
 use Rattle.grain_value.specs.Operands.{read_write}
 use Rattle.grain_fault.specs.declared.places.Position.{Position}
@@ -12,10 +12,17 @@ use Rattle.grain_means.specs.Rules.Frames.{is_full}
 use Rattle.grain_means.specs.Rules.Faults.{leave_by_fault, marked, charged_or, escaped}
 use Rattle.grain_means.specs.Rules.Going.{onward}
 
--- a frame in which a handler has caught a fault, with the operands that there were at its push
+-- the outermost n of a list whose innermost one is the first
+abbrev pub outermost : {A : Type 0} → ℕ → List A → List A
+outermost n xs = drop (length xs - n) xs
+
+-- a frame in which a handler has caught a fault, with the operands, cursors and totals that there were
+-- at its push
 abbrev pub catching : Frame → Handler → Problem → Frame
 catching f h x = record f {
   operands = take h.operands f.operands;
+  cursors = outermost h.cursors f.cursors;
+  totals = outermost h.totals f.totals;
   handlers = record h { caught = Some x } ∷ f.handlers;
 }
 
@@ -24,7 +31,7 @@ abbrev pub resumed : Frame → ℕ → Frame
 resumed f address = record f { address = address; slot = None; position = None }
 
 module _ {S : Type 0} (m : Setup S) where
-  -- an armed handler more, with as many operands and entries of the scope as there are
+  -- an armed handler more, with as many operands, cursors, totals and entries of the scope as there are
   abbrev pub push_handler : ℕ → Option ℕ → ℕ → Frame → World S → Act S
   push_handler target variable next f w =
       onward m f (record f {
@@ -33,6 +40,8 @@ module _ {S : Type 0} (m : Setup S) where
           target = target;
           variable = variable;
           operands = length f.operands;
+          cursors = length f.cursors;
+          totals = length f.totals;
           scope = length w.scope;
           caught = None;
         } ∷ f.handlers;
@@ -52,9 +61,10 @@ module _ {S : Type 0} (m : Setup S) where
 
   -- A handler of a frame catches, which has the handlers around it. What the trace had of the frames
   -- that the fault left before is gone. A scope that is shorter than at the handler's push is a fault
-  -- of this frame, at its instruction's position. Else the operands and the scope are cut, the
-  -- variable is bound, an operation is charged at the target's position, and the frame goes on there,
-  -- and no step is blamed any more. Until then the step that the caught fault blamed is.
+  -- of this frame, at its instruction's position. Else the operands, the cursors, the totals and the
+  -- scope are cut, the variable is bound, an operation is charged at the target's position, and the
+  -- frame goes on there, and no step is blamed any more. Until then the step that the caught fault
+  -- blamed is.
   abbrev pub caught : Frame → Handler → Problem → World S → Act S
   caught f h x w =
       let p = position_of m.program h.target in

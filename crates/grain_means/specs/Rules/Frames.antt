@@ -25,6 +25,8 @@ frame_at c size this =
     record {
       address = c.entry;
       operands = [];
+      cursors = [];
+      totals = [];
       handlers = [];
       base = size;
       floor = size;

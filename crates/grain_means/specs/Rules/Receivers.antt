@@ -10,7 +10,7 @@ use Rattle.grain_value.specs.declared.stores.Cell.{Cell}
 use Rattle.grain_value.specs.declared.values.Dynamic.{Dynamic}
 use Rattle.grain_value.specs.declared.values.FnPtr.{FnPtr}
 use Rattle.grain_value.specs.declared.values.Held.{Held}
-use Rattle.grain_fault.specs.Problems.{Problem, Plain, DataRace, NoMemory}
+use Rattle.grain_fault.specs.Problems.{Plain, DataRace, NoMemory}
 use Rattle.grain_program.specs.declared.code.functions.Function.{Function}
 use Rattle.grain_means.specs.Worlds.{Answer, Came, Failed, Place, Frame, World, Act, Setup}
 use Rattle.grain_means.specs.Places.{look, put}

@@ -1,6 +1,5 @@
 -- Instructions on the `this` of a frame.
-use Rattle.std.specs.Prelude.{ℕ, List, [], Option, Some, None, Bool, if◌then◌else◌}
-use Rattle.grain_value.specs.declared.values.Dynamic.{Dynamic}
+use Rattle.std.specs.Prelude.{ℕ, [], Option, Some, None, if◌then◌else◌}
 use Rattle.grain_value.specs.declared.values.Held.{Held}
 use Rattle.grain_value.specs.Looking.{cell_of}
 use Rattle.grain_value.specs.Operands.{top}

@@ -1,6 +1,6 @@
 -- A method step, which calls a method of the value at a place. Its name decides what it does, and then
 -- the value there.
-use Rattle.std.specs.Prelude.{ℕ, Bool, false, true, ◌&&◌, List, [], ◌∷◌, ◌++◌, Option, Some, None, bytes_eq, codes, is_some, nat_eq, map, if◌then◌else◌}
+use Rattle.std.specs.Prelude.{ℕ, Bool, ◌&&◌, List, [], ◌∷◌, ◌++◌, Option, Some, None, bytes_eq, codes, is_some, nat_eq, map, if◌then◌else◌}
 use Rattle.grain_value.specs.Tree.{Tree}
 use Rattle.grain_value.specs.View.{tree, value_of}
 use Rattle.grain_value.specs.Looking.{cell_of, pointer_of}
@@ -13,7 +13,7 @@ use Rattle.grain_value.specs.declared.values.Held.{Held}
 use Rattle.grain_fault.specs.Problems.{Plain, MismatchDataType}
 use Rattle.grain_fault.specs.declared.places.Position.{Position}
 use Rattle.grain_program.specs.Lookups.{method_of}
-use Rattle.grain_program.specs.View.{View, name_of}
+use Rattle.grain_program.specs.View.{name_of}
 use Rattle.grain_means.specs.Worlds.{Place, Answer}
 use Rattle.grain_means.specs.Tasks.{Task, Look, Method, Numbered, Pointed, Invoke}
 use Rattle.grain_means.specs.Walks.Asking.{Setting, Rest, Next, at_mark, failing, flattening, asking, was_given}

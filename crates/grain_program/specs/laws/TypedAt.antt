@@ -1,7 +1,7 @@
 -- A frame that is typed at an instruction stays typed, and what is verified holds of each
 -- instruction.
-use Rattle.std.specs.Prelude.{ℕ, suc, ◌≡◌, ◌<◌, ◌≤◌, ◌+◌, ◌-◌, nat_lt, Bool, true, false, cond, List, [], ◌∷◌, length, slice_get, Option, Some, None, refl}
-use Rattle.std.proofs.Common.{sym, ap, subst, ◌∙◌, inl, inr, arith}
+use Rattle.std.specs.Prelude.{ℕ, suc, ◌≡◌, ◌≤◌, ◌+◌, ◌-◌, ◌⊎◌, ◌||◌, nat_lt, Bool, true, false, cond, List, [], ◌∷◌, length, slice_get, Option, Some, None, refl}
+use Rattle.std.proofs.Common.{sym, subst, ◌∙◌, inl, inr, arith}
 use Rattle.std.proofs.lemmas.Bool.{ltb-false}
 use Rattle.std.specs.List.{AllByRecursion}
 use Rattle.grain_program.specs.declared.code.instruction_set.Op.{Op}
@@ -10,118 +10,23 @@ use Rattle.grain_program.specs.declared.code.functions.Function.{Function}
 use Rattle.grain_program.specs.View.{View}
 use Rattle.grain_program.specs.Decoding.{op_at}
 use Rattle.grain_program.specs.laws.Widths.{op_at_within}
-use Rattle.grain_program.specs.declared.code.effects.Flow.{Flow}
-use Rattle.grain_program.specs.declared.code.effects.Flow.TheVariants as flow
 use Rattle.grain_program.specs.declared.code.effects.Handling.{Handling}
 use Rattle.grain_program.specs.declared.code.effects.Handling.TheVariants as handling
 use Rattle.grain_program.specs.declared.code.instruction_set.Op.TheVariants as op
-use Rattle.grain_program.specs.declared.code.fields.Field.{Field}
-use Rattle.grain_program.specs.declared.code.fields.Field.TheVariants as field
-use Rattle.grain_program.specs.Fields.{targets_of}
-use Rattle.grain_program.specs.InstructionSet.{Transfer, falls_through, jumps, branches, ends, row, fields_of}
-use Rattle.grain_program.specs.Effects.{flow_to, effect_of, takes_of, gives_of, flow_of, leads, leads_of, handling_of}
+use Rattle.grain_program.specs.InstructionSet.{fields_of}
+use Rattle.grain_program.specs.Effects.{effect_of, takes_of, gives_of, cursors_taken, cursors_given, advances, flow_of, leads_of, looping_of, handling_of}
+use Rattle.grain_program.specs.laws.Leads.{leads_to_start, reached_in, reaches_with, in_branch, past_branch, same_at_target, no_more_at_target}
 use Rattle.grain_program.specs.Indices.{InPools}
 use Rattle.grain_program.specs.Layout.{chunks_in, gap_from, layout_fault}
 use Rattle.grain_program.specs.laws.Layout.{function_chunk}
 use Rattle.grain_program.specs.Starts.{Start}
 use Rattle.grain_program.specs.laws.Starts.{start_first, start_next}
 use Rattle.grain_program.specs.Rules.{Lands, StaysIn}
-use Rattle.grain_program.specs.Shapes.{Shape, TryHandler, shape, height_after, after, Arrival, arrival, arrivals, handled, is_under}
+use Rattle.grain_program.specs.Shapes.{Shape, TryHandler, shape, height_after, cursors_after, after, at_target, arrival, reached, handled, is_under}
 use Rattle.grain_program.specs.Typing.{Agrees}
 use Rattle.grain_program.specs.TypedAt.{HasName, Covers}
 pub use Rattle.grain_program.specs.Typing.{In, IsProgram}
 pub use Rattle.grain_program.specs.TypedAt.{IsCovered, IsTypedAt, Verified}
-
--- a flow's target is an instruction of the chunk
-abbrev FlowLands : List ℕ → Chunk → Flow → Type 0
-FlowLands code c flow.Next = Unit {0}
-FlowLands code c (flow.Jump t) = Start code c t
-FlowLands code c (flow.Branch t) = Start code c t
-FlowLands code c flow.End = Unit {0}
-
-targets_land : (p : View) (c : Chunk) (fs : List Field) → AllByRecursion (Lands p c) fs
-    → AllByRecursion (Start p.code c) (targets_of fs)
-targets_land p c [] h = tt
-targets_land p c (field.Target n ∷ fs) h = (h.0, targets_land p c fs h.1)
-targets_land p c (_ ∷ fs) h = targets_land p c fs h.1
-
-flow_lands : (code : List ℕ) (c : Chunk) (w : Transfer) (ts : List ℕ)
-    → AllByRecursion (Start code c) ts → FlowLands code c (flow_to w ts)
-flow_lands code c falls_through ts h = tt
-flow_lands code c jumps [] h = tt
-flow_lands code c jumps (t ∷ ts) h = h.0
-flow_lands code c branches [] h = tt
-flow_lands code c branches (t ∷ ts) h = h.0
-flow_lands code c ends ts h = tt
-
-flow_leads : (code : List ℕ) (c : Chunk) (next : ℕ) (w : Flow) → FlowLands code c w
-    → StaysIn c next w → (next < c.end → Start code c next) → (b : ℕ) → In b (leads w next)
-    → Start code c b
-flow_leads code c next flow.Next lands stays go b (inl e) = subst (Start code c) (sym e) (go stays)
-flow_leads code c next flow.Next lands stays go b (inr i) = absurd i
-flow_leads code c next (flow.Jump t) lands stays go b (inl e) = subst (Start code c) (sym e) lands
-flow_leads code c next (flow.Jump t) lands stays go b (inr i) = absurd i
-flow_leads code c next (flow.Branch t) lands stays go b i = at (nat_lt t next) i where
-  two : (x y : ℕ) → Start code c x → Start code c y → In b (x ∷ y ∷ []) → Start code c b
-  two x y s t (inl e) = subst (Start code c) (sym e) s
-  two x y s t (inr (inl e)) = subst (Start code c) (sym e) t
-  two x y s t (inr (inr i)) = absurd i
-
-  at : (q : Bool) → In b (cond q (t ∷ next ∷ []) (next ∷ t ∷ [])) → Start code c b
-  at true i = two t next lands (go stays) i
-  at false i = two next t (go stays) lands i
-flow_leads code c next flow.End lands stays go b i = absurd i
-
--- where an instruction leads, an instruction of its chunk begins
-pub leads_to_start : (p : View) (c : Chunk) (next : ℕ) (o : Op)
-    → AllByRecursion (Lands p c) (fields_of o) → StaysIn c next (flow_of o) → (next < c.end
-    → Start p.code c next) → (b : ℕ)
-    → In b (leads_of o next) → Start p.code c b
-leads_to_start p c next o lands stays go b i =
-    flow_leads p.code c next (flow_of o) (flow_lands p.code c (row o).transfer
-    (targets_of (fields_of o)) (targets_land p c (fields_of o) lands)) stays go b i
-
--- what a flow reaches is an address to which it leads, with the shape that the instruction leaves
-reached_in : (w : Flow) (next : ℕ) (s : Shape) (x : Arrival) → In x (arrivals w next s)
-    → In x.address (leads w next) × (x.shape ≡ s)
-reached_in flow.Next next s x (inl e) =
-    (inl (ap (λ (y : Arrival). y.address) e), ap (λ (y : Arrival). y.shape) e)
-reached_in flow.Next next s x (inr i) = absurd i
-reached_in (flow.Jump t) next s x (inl e) =
-    (inl (ap (λ (y : Arrival). y.address) e), ap (λ (y : Arrival). y.shape) e)
-reached_in (flow.Jump t) next s x (inr i) = absurd i
-reached_in (flow.Branch t) next s x i = at (nat_lt t next) i where
-  two : (a b : ℕ) → In x (arrival a s ∷ arrival b s ∷ [])
-      → In x.address (a ∷ b ∷ []) × (x.shape ≡ s)
-  two a b (inl e) = (inl (ap (λ (y : Arrival). y.address) e), ap (λ (y : Arrival). y.shape) e)
-  two a b (inr (inl e)) = (inr (inl (ap (λ (y : Arrival). y.address) e)), ap (λ (y : Arrival). y.shape) e)
-  two a b (inr (inr i)) = absurd i
-
-  at : (q : Bool) → In x (cond q (arrival t s ∷ arrival next s ∷ []) (arrival next s ∷ arrival t s
-      ∷ [])) → In x.address (cond q (t ∷ next ∷ []) (next ∷ t ∷ [])) × (x.shape ≡ s)
-  at true i = two t next i
-  at false i = two next t i
-reached_in flow.End next s x i = absurd i
-
--- an address to which a flow leads is reached, with the shape that the instruction leaves
-reaches_with : (w : Flow) (next : ℕ) (s : Shape) (b : ℕ) → In b (leads w next)
-    → In (arrival b s) (arrivals w next s)
-reaches_with flow.Next next s b (inl e) = inl (ap (λ (a : ℕ). arrival a s) e)
-reaches_with flow.Next next s b (inr i) = absurd i
-reaches_with (flow.Jump t) next s b (inl e) = inl (ap (λ (a : ℕ). arrival a s) e)
-reaches_with (flow.Jump t) next s b (inr i) = absurd i
-reaches_with (flow.Branch t) next s b i = at (nat_lt t next) i where
-  two : (x y : ℕ) → In b (x ∷ y ∷ []) → In (arrival b s) (arrival x s ∷ arrival y s ∷ [])
-  two x y (inl e) = inl (ap (λ (a : ℕ). arrival a s) e)
-  two x y (inr (inl e)) = inr (inl (ap (λ (a : ℕ). arrival a s) e))
-  two x y (inr (inr i)) = absurd i
-
-  at : (q : Bool) → In b (cond q (t ∷ next ∷ []) (next ∷ t ∷ []))
-      → In (arrival b s) (cond q (arrival t s ∷ arrival next s ∷ []) (arrival next s ∷ arrival t s
-      ∷ []))
-  at true i = two t next i
-  at false i = two next t i
-reaches_with flow.End next s b i = absurd i
 
 -- the code is no longer than the layout allows
 short : (len : ℕ) (chunks : List Chunk) → layout_fault len chunks ≡ None → len ≤ 16777216
@@ -134,90 +39,129 @@ short len chunks e = at (nat_lt 16777216 len) refl e where
 
 -- ---- handlers
 
+neither : (a b : Bool) → (a || b) ≡ false → (a ≡ false) × (b ≡ false)
+neither true b e = absurd cc
+neither false b e = (refl, e)
+
 module _ (p : View) (c : Chunk) (typing : ℕ → Option Shape) where
-  -- handlers stand above any larger number of operands
-  covers_more : (low high : ℕ) (hs : List TryHandler) → low ≤ high → Covers p c typing low hs
-      → Covers p c typing high hs
-  covers_more low high [] le k = tt
-  covers_more low high (h ∷ hs) le k = (omega (arith, le, k.0), k.1, k.2, k.3, k.4)
+  -- handlers stand above any larger numbers of operands and of cursors
+  covers_more : (low high few many : ℕ) (hs : List TryHandler) → low ≤ high → few ≤ many
+      → Covers p c typing low few hs → Covers p c typing high many hs
+  covers_more low high few many [] le more k = tt
+  covers_more low high few many (h ∷ hs) le more k =
+      (omega (arith, le, k.0), omega (arith, more, k.1), k.2, k.3, k.4, k.5)
 
-  -- handlers stand above the operands that are left, where those of the innermost one are left
-  covers_less : (low high : ℕ) (hs : List TryHandler) → is_under low hs ≡ false
-      → Covers p c typing high hs → Covers p c typing low hs
-  covers_less low high [] e k = tt
-  covers_less low high (h ∷ hs) e k = (ltb-false low h.height e, k.1, k.2, k.3, k.4)
+  -- handlers stand above the operands and the cursors that are left, where those of the innermost one
+  -- are left
+  covers_less : (low high few many : ℕ) (hs : List TryHandler) → is_under low few hs ≡ false
+      → Covers p c typing high many hs → Covers p c typing low few hs
+  covers_less low high few many [] e k = tt
+  covers_less low high few many (h ∷ hs) e k =
+      let both = neither (nat_lt low h.height) (nat_lt few h.cursors) e in
+      (ltb-false low h.height both.0, ltb-false few h.cursors both.1, k.2, k.3, k.4, k.5)
 
-  -- a handler that is pushed above this number of operands has what a handler needs
-  abbrev Catches : Handling → ℕ → List TryHandler → Type 0
-  Catches handling.Keep height hs = Unit {0}
-  Catches (handling.Push target variable) height hs =
+  -- a handler that is pushed above these numbers of operands and of cursors has what a handler needs
+  abbrev Catches : Handling → ℕ → ℕ → List TryHandler → Type 0
+  Catches handling.Keep height cursors hs = Unit {0}
+  Catches (handling.Push target variable) height cursors hs =
       HasName p variable × Start p.code c target
-      × (typing target ≡ Some (record {
-        height = height;
-        handlers = record { target = target; variable = variable; height = height } ∷ hs;
-      }))
-  Catches handling.Pop height hs = Unit {0}
+      × (typing target ≡ Some (shape height cursors
+      (handled (handling.Push target variable) height cursors hs)))
+  Catches handling.Pop height cursors hs = Unit {0}
 
-  -- the handlers after an instruction that leaves low operands of those that were there, and then
-  -- gives others
-  handled_covers : (w : Handling) (low height : ℕ) (hs : List TryHandler) → low ≤ height
-      → Covers p c typing low hs → Catches w height hs
-      → Covers p c typing height (handled w height hs)
-  handled_covers handling.Keep low height hs le k push = covers_more low height hs le k
-  handled_covers (handling.Push target variable) low height hs le k push =
-      (omega arith, push.0, push.1, push.2, covers_more low height hs le k)
-  handled_covers handling.Pop low height [] le k push = tt
-  handled_covers handling.Pop low height (h ∷ hs) le k push =
-      covers_more h.height height hs (omega (arith, le, k.0)) k.4
-
-  in_branch : (t next : ℕ) (s : Shape) → In (arrival t s) (arrivals (flow.Branch t) next s)
-  in_branch t next s = at (nat_lt t next) where
-    at : (b : Bool) → In (arrival t s) (cond b (arrival t s ∷ arrival next s ∷ [])
-        (arrival next s ∷ arrival t s ∷ []))
-    at true = inl refl
-    at false = inr (inl refl)
+  -- the handlers after an instruction that leaves low operands and few cursors of those that were
+  -- there, and then gives others
+  handled_covers : (w : Handling) (low height few cursors : ℕ) (hs : List TryHandler)
+      → low ≤ height → few ≤ cursors → Covers p c typing low few hs
+      → Catches w height cursors hs
+      → Covers p c typing height cursors (handled w height cursors hs)
+  handled_covers handling.Keep low height few cursors hs le more k push =
+      covers_more low height few cursors hs le more k
+  handled_covers (handling.Push target variable) low height few cursors hs le more k push = (
+    omega arith,
+    omega arith,
+    push.0,
+    push.1,
+    push.2,
+    covers_more low height few cursors hs le more k,
+  )
+  handled_covers handling.Pop low height few cursors [] le more k push = tt
+  handled_covers handling.Pop low height few cursors (h ∷ hs) le more k push =
+      covers_more h.height height h.cursors cursors hs (omega (arith, le, k.0))
+      (omega (arith, more, k.1)) k.5
 
   -- a push leads to its handler's target, and its variable has a name
   pushes : (o : Op) (max at width : ℕ) (s : Shape) → AllByRecursion (Lands p c) (fields_of o)
-      → InPools p o → Agrees typing max at width (effect_of p o) s
-      → Catches (handling_of o) (height_after (effect_of p o) s) s.handlers
-  pushes (op.PushHandler t) max at width s lands pools agrees = (
-    tt,
-    lands.0,
-    agrees.arrives (arrival t (after (effect_of p (op.PushHandler t)) s))
-        (in_branch t (at + width) (after (effect_of p (op.PushHandler t)) s)),
-  )
-  pushes (op.PushHandlerVar t n) max at width s lands pools agrees = (
-    pools.1.0,
-    lands.0,
-    agrees.arrives (arrival t (after (effect_of p (op.PushHandlerVar t n)) s))
-        (in_branch t (at + width) (after (effect_of p (op.PushHandlerVar t n)) s)),
-  )
+      → InPools p o → Agrees p typing max at width (effect_of p o) s
+      → Catches (handling_of o) (height_after (effect_of p o) s) (cursors_after (effect_of p o) s)
+      s.handlers
+  pushes (op.PushHandler t) max at width s lands pools agrees =
+      let t1 : Shape = after (effect_of p (op.PushHandler t)) s in
+      (tt, lands.0, agrees.arrives (arrival t t1) (in_branch p t (at + width) t1 t1))
+  pushes (op.PushHandlerVar t n) max at width s lands pools agrees =
+      let t1 : Shape = after (effect_of p (op.PushHandlerVar t n)) s in
+      (pools.1.0, lands.0, agrees.arrives (arrival t t1) (in_branch p t (at + width) t1 t1))
   pushes _ max at width s lands pools agrees = tt
 
+  -- handlers that an instruction leaves above the operands and the cursors that are left, before it
+  -- gives others, it leaves at its target too
+  targets_cover : (o : Op) (s : Shape)
+      → Covers p c typing (s.height - takes_of p o) (s.cursors - cursors_taken (looping_of o))
+      s.handlers
+      → Covers p c typing (height_after (effect_of p o) s) (cursors_after (effect_of p o) s)
+      (after (effect_of p o) s).handlers
+      → Covers p c typing (at_target (effect_of p o) (after (effect_of p o) s)).height
+      (at_target (effect_of p o) (after (effect_of p o) s)).cursors
+      (at_target (effect_of p o) (after (effect_of p o) s)).handlers
+  targets_cover (op.IterNext t) s keeps k =
+      covers_more (s.height - 0) (s.height - 0 + 1 - 1) (s.cursors - 1) (s.cursors - 1 + 1 - 1)
+      s.handlers (omega arith) (omega arith) keeps
+  targets_cover (op.IterNextIndexed t n) s keeps k =
+      covers_more (s.height - 0) (s.height - 0 + 1 - 1) (s.cursors - 1) (s.cursors - 1 + 1 - 1)
+      s.handlers (omega arith) (omega arith) keeps
+  targets_cover _ s keeps k = k
+
 -- an instruction is there
-pub stands : (p : View) → IsProgram p → (c : Chunk) (at depth : ℕ) (hs : List TryHandler)
-    → IsTypedAt p c at depth hs → (x : Op × ℕ) × (op_at p.code at ≡ Some x)
-stands p v c at depth hs f =
+pub stands : (p : View) → IsProgram p → (c : Chunk) (at depth cursors : ℕ) (hs : List TryHandler)
+    → IsTypedAt p c at depth cursors hs → (x : Op × ℕ) × (op_at p.code at ≡ Some x)
+stands p v c at depth cursors hs f =
     let o = v.splits.obeys f.number c at f.is f.start in (o.read, o.whole.is)
 
+-- a frame that is typed with one of two shapes, each of which has what it needs
+one_of_two : (p : View) (c : Chunk) (at : ℕ) (typing : ℕ → Option Shape) (x s t : Shape)
+    → (x ≡ s) ⊎ (x ≡ t) → s.height ≤ c.max_stack → t.height ≤ c.max_stack
+    → Covers p c typing s.height s.cursors s.handlers
+    → Covers p c typing t.height t.cursors t.handlers
+    → (x.height ≤ c.max_stack) × Covers p c typing x.height x.cursors x.handlers
+one_of_two p c at typing x s t (inl e) low lower k j =
+    subst (λ (y : Shape). (y.height ≤ c.max_stack) × Covers p c typing y.height y.cursors
+    y.handlers) (sym e) (low, k)
+one_of_two p c at typing x s t (inr e) low lower k j =
+    subst (λ (y : Shape). (y.height ≤ c.max_stack) × Covers p c typing y.height y.cursors
+    y.handlers) (sym e) (lower, j)
+
 -- what validity says of the instruction
-pub verified : (p : View) → IsProgram p → (c : Chunk) (at depth : ℕ) (hs : List TryHandler)
-    → IsTypedAt p c at depth hs → (r : Op × ℕ) → op_at p.code at ≡ Some r
-    → Verified p c at depth hs r.0 r.1
-verified p v c at depth hs f r e =
+pub verified : (p : View) → IsProgram p → (c : Chunk) (at depth cursors : ℕ)
+    (hs : List TryHandler) → IsTypedAt p c at depth cursors hs → (r : Op × ℕ)
+    → op_at p.code at ≡ Some r → Verified p c at depth cursors hs r.0 r.1
+verified p v c at depth cursors hs f r e =
     let o = v.splits.obeys f.number c at f.is f.start in
     let both : Some o.read ≡ Some r = sym o.whole.is ∙ e in
     let same : o.read ≡ r = cc in
     let lands = subst (λ (x : Op × ℕ). AllByRecursion (Lands p c) (fields_of x.0)) same o.target in
     let stays = subst (λ (x : Op × ℕ). StaysIn c (at + x.1) (flow_of x.0)) same o.end in
     let pools = subst (λ (x : Op × ℕ). InPools p x.0) same o.index in
-    let s : Shape = shape depth hs in
+    let s : Shape = shape depth cursors hs in
     let agrees = f.typed.steps f.number c at r s f.is f.start e f.known in
     let wide = op_at_within p.code at r e in
     let left = depth - takes_of p r.0 in
-    let keeps : Covers p c f.typing left hs =
-    covers_less p c f.typing left depth hs agrees.above f.covers in
+    let few = cursors - cursors_taken (looping_of r.0) in
+    let keeps : Covers p c f.typing left few hs =
+    covers_less p c f.typing left depth few cursors hs agrees.above f.covers in
+    let t : Shape = after (effect_of p r.0) s in
+    let covers =
+    handled_covers p c f.typing (handling_of r.0) left t.height few t.cursors hs (omega arith)
+    (omega arith) keeps (pushes p c f.typing r.0 c.max_stack at r.1 s lands pools agrees) in
     record {
       provides = record {
         enough = agrees.enough;
@@ -226,6 +170,7 @@ verified p v c at depth hs f r e =
         inside = let l = short (length p.code) (chunks_in p) v.layout in omega (arith, wide.1);
         wide = wide.0;
       };
+      cursor = agrees.cursor;
       handler = agrees.handler;
       covered = record {
         number = f.number;
@@ -236,34 +181,92 @@ verified p v c at depth hs f r e =
         covers = keeps;
       };
       goes = λ x i.
-          let t = after (effect_of p r.0) s in
-          let to = reached_in (flow_of r.0) (at + r.1) t x i in
-          subst (λ (y : Shape). IsTypedAt p c x.address y.height y.handlers) (sym to.1) (record {
+          let out : Shape = at_target (effect_of p r.0) t in
+          let to = reached_in p (flow_of r.0) (at + r.1) t out x i in
+          let fine = one_of_two p c x.address f.typing x.shape t out to.1 agrees.room (omega (
+            arith,
+            no_more_at_target (looping_of r.0) (gives_of r.0) t,
+            agrees.room,
+          )) covers (targets_cover p c f.typing r.0 s keeps covers) in
+          record {
             number = f.number;
             is = f.is;
             start = leads_to_start p c (at + r.1) r.0 lands stays (λ lt. start_next p.code c at r
                 f.start e lt) x.address to.0;
             typing = f.typing;
             typed = f.typed;
-            known = agrees.arrives x i ∙ ap (λ (y : Shape). Some y) to.1;
-            low = agrees.room;
-            covers = handled_covers p c f.typing (handling_of r.0) left t.height hs (omega arith)
-                keeps (pushes p c f.typing r.0 c.max_stack at r.1 s lands pools agrees);
-          });
+            known = agrees.arrives x i;
+            low = fine.0;
+            covers = fine.1;
+          };
     }
 
--- wherever the instruction leads, the typing knows the frame with the operands and the handlers that
--- the instruction leaves
-pub goes_on : {p : View} {c : Chunk} {at depth : ℕ} {hs : List TryHandler} {o : Op} {width : ℕ}
-    → Verified p c at depth hs o width → (b : ℕ) → In b (leads_of o (at + width))
+-- wherever an instruction leads that goes on with no cursor, the typing knows the frame with the
+-- operands, the cursors and the handlers that the instruction leaves
+pub goes_on : {p : View} {c : Chunk} {at depth cursors : ℕ} {hs : List TryHandler} {o : Op}
+    {width : ℕ} → Verified p c at depth cursors hs o width → advances (looping_of o) ≡ false
+    → (b : ℕ) → In b (leads_of p o (at + width))
     → IsTypedAt p c b (depth - takes_of p o + gives_of o)
-    (handled (handling_of o) (depth - takes_of p o + gives_of o) hs)
-goes_on {p} {c} {at} {depth} {hs} {o} {width} v b i =
-    let t = after (effect_of p o) (shape depth hs) in
-    v.goes (arrival b t) (reaches_with (flow_of o) (at + width) t b i)
+    (cursors - cursors_taken (looping_of o) + cursors_given (looping_of o))
+    (handled (handling_of o) (depth - takes_of p o + gives_of o)
+    (cursors - cursors_taken (looping_of o) + cursors_given (looping_of o)) hs)
+goes_on {p} {c} {at} {depth} {cursors} {hs} {o} {width} v even b i =
+    let t = after (effect_of p o) (shape depth cursors hs) in
+    v.goes (arrival b t)
+    (subst (λ (y : Shape). In (arrival b t) (reached p (flow_of o) (at + width) t y))
+    (sym (same_at_target (looping_of o) (gives_of o) t even))
+    (reaches_with p (flow_of o) (at + width) t b i))
 
--- a frame of the main chunk begins at its entry, without operands and handlers
-pub begins : (p : View) → IsProgram p → IsTypedAt p p.main p.main.entry 0 []
+-- a frame with other numbers that are the same
+with_numbers : {p : View} {c : Chunk} {at depth height cursors many : ℕ} {hs : List TryHandler}
+    → depth ≡ height → cursors ≡ many → IsTypedAt p c at depth cursors hs
+    → IsTypedAt p c at height many hs
+with_numbers {p} {c} {at} {depth} {height} {cursors} {many} {hs} e f h =
+    subst (λ (n : ℕ). IsTypedAt p c at height n hs) f
+    (subst (λ (n : ℕ). IsTypedAt p c at n cursors hs) e h)
+
+-- where a cursor goes on, the frame has an operand more at the next instruction
+pub goes_with_item : {p : View} {c : Chunk} {at depth cursors : ℕ} {hs : List TryHandler} {t : ℕ}
+    {width : ℕ} → Verified p c at depth cursors hs (op.IterNext t) width
+    → IsTypedAt p c (at + width) (depth + 1) cursors hs
+goes_with_item {p} {c} {at} {depth} {cursors} {hs} {t} {width} v =
+    let e = effect_of p (op.IterNext t) in
+    let s = after e (shape depth cursors hs) in
+    with_numbers (omega arith) (omega (arith, v.cursor))
+    (v.goes (arrival (at + width) s) (past_branch p t (at + width) s (at_target e s)))
+
+pub goes_with_item_indexed : {p : View} {c : Chunk} {at depth cursors : ℕ}
+    {hs : List TryHandler} {t n : ℕ} {width : ℕ}
+    → Verified p c at depth cursors hs (op.IterNextIndexed t n) width
+    → IsTypedAt p c (at + width) (depth + 1) cursors hs
+goes_with_item_indexed {p} {c} {at} {depth} {cursors} {hs} {t} {n} {width} v =
+    let e = effect_of p (op.IterNextIndexed t n) in
+    let s = after e (shape depth cursors hs) in
+    with_numbers (omega arith) (omega (arith, v.cursor))
+    (v.goes (arrival (at + width) s) (past_branch p t (at + width) s (at_target e s)))
+
+-- and at the end it has a cursor less at the target
+pub goes_without_cursor : {p : View} {c : Chunk} {at depth cursors : ℕ} {hs : List TryHandler}
+    {t : ℕ} {width : ℕ} → Verified p c at depth cursors hs (op.IterNext t) width
+    → IsTypedAt p c t depth (cursors - 1) hs
+goes_without_cursor {p} {c} {at} {depth} {cursors} {hs} {t} {width} v =
+    let e = effect_of p (op.IterNext t) in
+    let s = after e (shape depth cursors hs) in
+    with_numbers (omega arith) (omega arith)
+    (v.goes (arrival t (at_target e s)) (in_branch p t (at + width) s (at_target e s)))
+
+pub goes_without_cursor_indexed : {p : View} {c : Chunk} {at depth cursors : ℕ}
+    {hs : List TryHandler} {t n : ℕ} {width : ℕ}
+    → Verified p c at depth cursors hs (op.IterNextIndexed t n) width
+    → IsTypedAt p c t depth (cursors - 1) hs
+goes_without_cursor_indexed {p} {c} {at} {depth} {cursors} {hs} {t} {n} {width} v =
+    let e = effect_of p (op.IterNextIndexed t n) in
+    let s = after e (shape depth cursors hs) in
+    with_numbers (omega arith) (omega arith)
+    (v.goes (arrival t (at_target e s)) (in_branch p t (at + width) s (at_target e s)))
+
+-- a frame of the main chunk begins at its entry, without operands, cursors and handlers
+pub begins : (p : View) → IsProgram p → IsTypedAt p p.main p.main.entry 0 0 []
 begins p v = record {
   number = 0;
   is = refl;
@@ -275,9 +278,9 @@ begins p v = record {
   covers = tt;
 }
 
--- a frame of a function begins at its entry, without operands and handlers
+-- a frame of a function begins at its entry, without operands, cursors and handlers
 pub enters : (p : View) → IsProgram p → (i : ℕ) (f : Function) → slice_get p.functions i ≡ Some f
-    → IsTypedAt p f.chunk f.chunk.entry 0 []
+    → IsTypedAt p f.chunk f.chunk.entry 0 0 []
 enters p v i f e =
     let is = function_chunk p i f e in
     record {
@@ -292,9 +295,9 @@ enters p v i f e =
     }
 
 -- the handlers of a frame that stands at an instruction
-pub covered : (p : View) (c : Chunk) (at depth : ℕ) (hs : List TryHandler)
-    → IsTypedAt p c at depth hs → IsCovered p c depth hs
-covered p c at depth hs f = record {
+pub covered : (p : View) (c : Chunk) (at depth cursors : ℕ) (hs : List TryHandler)
+    → IsTypedAt p c at depth cursors hs → IsCovered p c depth cursors hs
+covered p c at depth cursors hs f = record {
   number = f.number;
   is = f.is;
   typing = f.typing;
@@ -304,33 +307,40 @@ covered p c at depth hs f = record {
 }
 
 -- the innermost handler was pushed above no more operands than there are
-pub covers_height : (p : View) (c : Chunk) (depth : ℕ) (h : TryHandler) (hs : List TryHandler)
-    → IsCovered p c depth (h ∷ hs) → h.height ≤ depth
-covers_height p c depth h hs k = k.covers.0
+pub covers_height : (p : View) (c : Chunk) (depth cursors : ℕ) (h : TryHandler)
+    (hs : List TryHandler) → IsCovered p c depth cursors (h ∷ hs) → h.height ≤ depth
+covers_height p c depth cursors h hs k = k.covers.0
+
+-- and above no more cursors
+pub covers_cursors : (p : View) (c : Chunk) (depth cursors : ℕ) (h : TryHandler)
+    (hs : List TryHandler) → IsCovered p c depth cursors (h ∷ hs) → h.cursors ≤ cursors
+covers_cursors p c depth cursors h hs k = k.covers.1
 
 -- the handlers around the innermost one
-pub uncovered : (p : View) (c : Chunk) (depth : ℕ) (h : TryHandler) (hs : List TryHandler)
-    → IsCovered p c depth (h ∷ hs) → IsCovered p c depth hs
-uncovered p c depth h hs k = record {
+pub uncovered : (p : View) (c : Chunk) (depth cursors : ℕ) (h : TryHandler) (hs : List TryHandler)
+    → IsCovered p c depth cursors (h ∷ hs) → IsCovered p c depth cursors hs
+uncovered p c depth cursors h hs k = record {
   number = k.number;
   is = k.is;
   typing = k.typing;
   typed = k.typed;
   low = k.low;
-  covers = covers_more p c k.typing h.height depth hs k.covers.0 k.covers.4;
+  covers = covers_more p c k.typing h.height depth h.cursors cursors hs k.covers.0 k.covers.1
+      k.covers.5;
 }
 
--- a frame that has caught stands at the handler's target, with the operands that were there at its
--- push, and with this handler and those around it
-pub catches : (p : View) (c : Chunk) (depth : ℕ) (h : TryHandler) (hs : List TryHandler)
-    → IsCovered p c depth (h ∷ hs) → IsTypedAt p c h.target h.height (h ∷ hs)
-catches p c depth h hs k = record {
+-- a frame that has caught stands at the handler's target, with the operands and the cursors that were
+-- there at its push, and with this handler and those around it
+pub catches : (p : View) (c : Chunk) (depth cursors : ℕ) (h : TryHandler) (hs : List TryHandler)
+    → IsCovered p c depth cursors (h ∷ hs)
+    → IsTypedAt p c h.target h.height h.cursors (h ∷ hs)
+catches p c depth cursors h hs k = record {
   number = k.number;
   is = k.is;
-  start = k.covers.2;
+  start = k.covers.3;
   typing = k.typing;
   typed = k.typed;
-  known = k.covers.3;
+  known = k.covers.4;
   low = omega (arith, k.covers.0, k.low);
-  covers = (omega arith, k.covers.1, k.covers.2, k.covers.3, k.covers.4);
+  covers = (omega arith, omega arith, k.covers.2, k.covers.3, k.covers.4, k.covers.5);
 }

@@ -88,6 +88,7 @@ fn spell_field(code: &mut Vec<u8>, field: Field) -> Result<(), OutOfMemory>
         Field::Name(index) => code.extend_from_slice(&index.to_le_bytes())?,
         Field::Assignment(index) => code.extend_from_slice(&index.to_le_bytes())?,
         Field::Chain(index) => code.extend_from_slice(&index.to_le_bytes())?,
+        Field::Switch(index) => code.extend_from_slice(&index.to_le_bytes())?,
         Field::Token(index) => code.extend_from_slice(&index.to_le_bytes())?,
         Field::Slot(slot) => code.extend_from_slice(&slot.to_le_bytes())?,
         Field::Target(address) => code.extend_from_slice(&address.to_le_bytes())?,

@@ -1,15 +1,16 @@
 //! Rows of the instruction set.
 
 ghost use Rattle.std.specs.Prelude.{◌≡◌};
+ghost use Rattle.grain_program.specs.declared.code.effects.Looping.TheVariants as looping;
 ghost use Rattle.grain_program.specs.declared.code.effects.Handling.TheVariants as handling;
 
 use crate::code::caps::Caps;
-use crate::code::effects::{Flow, Handling};
+use crate::code::effects::{Flow, Handling, Looping};
 use crate::code::fields::Fields;
 use bitflags::Flags;
 
-/// What an instruction is: its bytes, what it does to the operands on the stack and to the handlers,
-/// where it goes, and what it needs.
+/// What an instruction is: its bytes, what it does to the operands on the stack, to the cursors and to
+/// the handlers, where it goes, and what it needs.
 #[derive(Drop)]
 pub struct Descriptor {
     /// Its first byte.
@@ -21,6 +22,8 @@ pub struct Descriptor {
     pub gives: u32,
     /// Where the machine goes afterwards.
     pub flow: Flow,
+    /// What becomes of the cursors.
+    pub looping: Looping,
     /// What becomes of the handlers.
     pub handling: Handling,
     /// The capability that a program needs to have it, or none.
@@ -35,6 +38,7 @@ pub(crate) fn plain(tag: u8, fields: Fields, takes: u32, gives: u32, flow: Flow)
     ensures takes { result.takes ≡ takes }
     ensures gives { result.gives ≡ gives }
     ensures flow { result.flow ≡ flow }
+    ensures looping { result.looping ≡ looping.Keep }
     ensures handling { result.handling ≡ handling.Keep }
     ensures capability { result.capability.0 ≡ 0 }
 {
@@ -44,6 +48,7 @@ pub(crate) fn plain(tag: u8, fields: Fields, takes: u32, gives: u32, flow: Flow)
         takes,
         gives,
         flow,
+        looping: Looping::Keep,
         handling: Handling::Keep,
         capability: Caps::empty(),
     }
@@ -57,10 +62,26 @@ pub(crate) fn needing(capability: Caps, row: Descriptor) -> Descriptor
     ensures takes { result.takes ≡ row.takes }
     ensures gives { result.gives ≡ row.gives }
     ensures flow { result.flow ≡ row.flow }
+    ensures looping { result.looping ≡ row.looping }
     ensures handling { result.handling ≡ row.handling }
     ensures capability { result.capability ≡ capability }
 {
     Descriptor { capability, ..row }
+}
+
+/// An instruction that does this to the cursors, and is else as in this row.
+#[inline(always)]
+pub(crate) fn looping(looping: Looping, row: Descriptor) -> Descriptor
+    ensures tag { result.tag ≡ row.tag }
+    ensures fields { result.fields ≡ row.fields }
+    ensures takes { result.takes ≡ row.takes }
+    ensures gives { result.gives ≡ row.gives }
+    ensures flow { result.flow ≡ row.flow }
+    ensures looping { result.looping ≡ looping }
+    ensures handling { result.handling ≡ row.handling }
+    ensures capability { result.capability ≡ row.capability }
+{
+    Descriptor { looping, ..row }
 }
 
 /// An instruction on handlers, which needs no capability, and takes and gives no operand.
@@ -71,6 +92,7 @@ pub(crate) fn on_handlers(tag: u8, fields: Fields, flow: Flow, handling: Handlin
     ensures takes { result.takes ≡ 0 }
     ensures gives { result.gives ≡ 0 }
     ensures flow { result.flow ≡ flow }
+    ensures looping { result.looping ≡ looping.Keep }
     ensures handling { result.handling ≡ handling }
     ensures capability { result.capability.0 ≡ 0 }
 {
@@ -80,6 +102,7 @@ pub(crate) fn on_handlers(tag: u8, fields: Fields, flow: Flow, handling: Handlin
         takes: 0,
         gives: 0,
         flow,
+        looping: Looping::Keep,
         handling,
         capability: Caps::empty(),
     }

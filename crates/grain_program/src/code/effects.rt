@@ -1,9 +1,9 @@
-//! What an instruction does to the operands and the handlers, and where it leads.
+//! What an instruction does to the operands, the cursors and the handlers, and where it leads.
 
 ghost use Rattle.std.specs.Prelude.{◌≡◌};
 ghost use Rattle.grain_program.specs.View.{view_of, chain_of};
 ghost use Rattle.grain_program.specs.Chains.{chain_takes};
-ghost use Rattle.grain_program.specs.Effects.{effect_of};
+ghost use Rattle.grain_program.specs.Effects.{effect_of, cursors_taken, cursors_given};
 
 use crate::code::fields::chain_in;
 use crate::code::instruction_set::Op;
@@ -18,8 +18,46 @@ pub enum Flow {
     Jump(u32),
     /// To the target or to the next instruction.
     Branch(u32),
+    /// To a target of the switch at this index.
+    Switch(u16),
     /// Out of the chunk.
     End,
+}
+
+/// What an instruction does to the cursors of its frame.
+#[derive(Clone, Copy, Debug, PartialEq, Eq)]
+pub enum Looping {
+    /// Nothing.
+    Keep,
+    /// One more begins.
+    Begin,
+    /// The innermost goes.
+    Leave,
+    /// The innermost goes on. Where the machine goes to the instruction's target, it goes instead, and
+    /// no operand is given.
+    Advance,
+}
+
+impl Looping {
+    /// How many cursors there have to be for it.
+    pub fn takes(self) -> u32
+        ensures { result ≡ cursors_taken self }
+    {
+        match self {
+            Looping::Keep | Looping::Begin => 0,
+            Looping::Leave | Looping::Advance => 1,
+        }
+    }
+
+    /// How many cursors there are again afterwards, or anew.
+    pub fn gives(self) -> u32
+        ensures { result ≡ cursors_given self }
+    {
+        match self {
+            Looping::Keep | Looping::Leave => 0,
+            Looping::Begin | Looping::Advance => 1,
+        }
+    }
 }
 
 /// What an instruction does to the handlers of its frame.
@@ -35,12 +73,13 @@ pub enum Handling {
 }
 
 /// How many operands an instruction takes and then gives, where the machine goes, and what becomes
-/// of the handlers.
+/// of the cursors and of the handlers.
 #[derive(Clone, Copy, Debug, PartialEq, Eq)]
 pub struct Effect {
     pub takes: u64,
     pub gives: u32,
     pub flow: Flow,
+    pub looping: Looping,
     pub handling: Handling,
 }
 
@@ -70,6 +109,7 @@ impl Effect {
             takes,
             gives: row.gives,
             flow: row.flow,
+            looping: row.looping,
             handling: row.handling,
         }
     }

@@ -17,6 +17,8 @@ pub enum Field {
     Assignment(u16),
     /// The index of a chain, in two bytes. The instruction takes the operands that its chain takes.
     Chain(u16),
+    /// The index of a switch, in two bytes. The instruction leads to the targets of its switch.
+    Switch(u16),
     /// The index of an operator token, in two bytes.
     Token(u16),
     /// A scope entry, counted from the frame's base, in two bytes.

@@ -5,18 +5,18 @@ ghost use Rattle.std.specs.Prelude.{◌≡◌, ◌<◌, ◌≤◌, ◌+◌, leng
 ghost use Rattle.grain_program.specs.InstructionSet.{word_of, tag_of, fields_of};
 ghost use Rattle.grain_program.specs.Decoding.{by_tag, width_of};
 ghost use Rattle.grain_program.specs.Spelling.{OpFits};
-ghost use Rattle.grain_program.specs.Effects.{own_takes, gives_of, flow_of, handling_of};
+ghost use Rattle.grain_program.specs.Effects.{own_takes, gives_of, flow_of, looping_of, handling_of};
 ghost use Rattle.grain_program.specs.Capabilities.{needs};
 
 use crate::code::caps::Caps;
-use crate::code::descriptors::{Descriptor, needing, on_handlers, plain};
-use crate::code::effects::{Flow, Handling};
+use crate::code::descriptors::{Descriptor, looping, needing, on_handlers, plain};
+use crate::code::effects::{Flow, Handling, Looping};
 use crate::code::fields::{Field, Fields};
 use crate::code::numbers::{four_there, one_there, two_there};
 
 /// One instruction. Its operands stand in the order of its bytes: C a constant, N a name, S a slot,
-/// A an op-assignment, O an operator token, K a chain, T a target address and d a plain number; a
-/// count or another number U is one byte.
+/// A an op-assignment, O an operator token, K a chain or a switch, T a target address and d a plain
+/// number; a count or another number U is one byte.
 #[derive(Clone, Copy, Debug, PartialEq, Eq)]
 pub enum Op {
     /// `load_const C`: a copy of the constant.
@@ -71,6 +71,8 @@ pub enum Op {
     JumpIfTrue(u32),
     /// `skip_if_not_unit T`: looks at the last operand.
     SkipIfNotUnit(u32),
+    /// `switch K`: looks at the last operand, and goes on where the switch leads it.
+    Switch(u16),
     /// `call N n`: the function of that name on the n last operands.
     Call(u16, u8),
     /// `call_op N n O`: the operator on the n last operands.
@@ -108,6 +110,15 @@ pub enum Op {
     PushHandlerVar(u32, u16),
     /// `pop_handler`: the innermost handler goes.
     PopHandler,
+    /// `iter_init`: a cursor more, over the last operand.
+    IterInit,
+    /// `iter_drop`: the innermost cursor goes.
+    IterDrop,
+    /// `iter_next T`: counts, and gives the next item of the innermost cursor. At its end the cursor
+    /// goes, and the machine goes to the target.
+    IterNext(u32),
+    /// `iter_next_indexed T S`: the same, and the count goes to the entry.
+    IterNextIndexed(u32, u16),
     /// `throw`: raises the last operand.
     Throw,
     /// `return`: the last operand, or unit.
@@ -233,6 +244,10 @@ pub(crate) fn tagged(tag: u8, rest: &[u8], op: &mut Op) -> usize
             *op = Op::SkipIfNotUnit(four_there(rest));
             5
         }
+        0x21 => {
+            *op = Op::Switch(two_there(rest));
+            3
+        }
         0x22 => {
             let count = &rest[2..];
             *op = Op::Call(two_there(rest), one_there(count));
@@ -302,6 +317,23 @@ pub(crate) fn tagged(tag: u8, rest: &[u8], op: &mut Op) -> usize
             *op = Op::PopHandler;
             1
         }
+        0x3f => {
+            *op = Op::IterInit;
+            1
+        }
+        0x40 => {
+            *op = Op::IterDrop;
+            1
+        }
+        0x41 => {
+            *op = Op::IterNext(four_there(rest));
+            5
+        }
+        0x42 => {
+            let slot = &rest[4..];
+            *op = Op::IterNextIndexed(four_there(rest), two_there(slot));
+            7
+        }
         0x49 => {
             *op = Op::Throw;
             1
@@ -347,6 +379,7 @@ impl Op {
             Op::JumpIfFalse(_) => "jump_if_false",
             Op::JumpIfTrue(_) => "jump_if_true",
             Op::SkipIfNotUnit(_) => "skip_if_not_unit",
+            Op::Switch(_) => "switch",
             Op::Call(_, _) => "call",
             Op::CallOp(_, _, _) => "call_op",
             Op::MakeClosure(_) => "make_closure",
@@ -363,6 +396,10 @@ impl Op {
             Op::PushHandler(_) => "push_handler",
             Op::PushHandlerVar(_, _) => "push_handler_var",
             Op::PopHandler => "pop_handler",
+            Op::IterInit => "iter_init",
+            Op::IterDrop => "iter_drop",
+            Op::IterNext(_) => "iter_next",
+            Op::IterNextIndexed(_, _) => "iter_next_indexed",
             Op::Throw => "throw",
             Op::Return => "return",
         }
@@ -376,6 +413,7 @@ impl Op {
         ensures takes { result.takes ≡ own_takes self }
         ensures gives { result.gives ≡ gives_of self }
         ensures flow { result.flow ≡ flow_of self }
+        ensures looping { result.looping ≡ looping_of self }
         ensures handling { result.handling ≡ handling_of self }
         ensures capability { result.capability.0 ≡ needs self }
         ensures fits { OpFits self }
@@ -464,6 +502,10 @@ impl Op {
                 let fields = Fields::one(Field::Target(target));
                 plain(0x20, fields, 1, 1, Flow::Branch(target))
             }
+            Op::Switch(switch) => {
+                let fields = Fields::one(Field::Switch(switch));
+                plain(0x21, fields, 1, 1, Flow::Switch(switch))
+            }
             Op::Call(name, count) => {
                 let fields = Fields::two(Field::Name(name), Field::Count(count));
                 let call = plain(0x22, fields, u32::from(count), 1, Flow::Next);
@@ -536,6 +578,24 @@ impl Op {
             Op::PopHandler => {
                 let fields = Fields::none();
                 on_handlers(0x3e, fields, Flow::Next, Handling::Pop)
+            }
+            Op::IterInit => {
+                let init = plain(0x3f, Fields::none(), 1, 0, Flow::Next);
+                looping(Looping::Begin, init)
+            }
+            Op::IterDrop => {
+                let leave = plain(0x40, Fields::none(), 0, 0, Flow::Next);
+                looping(Looping::Leave, leave)
+            }
+            Op::IterNext(target) => {
+                let fields = Fields::one(Field::Target(target));
+                let advance = plain(0x41, fields, 0, 1, Flow::Branch(target));
+                looping(Looping::Advance, advance)
+            }
+            Op::IterNextIndexed(target, slot) => {
+                let fields = Fields::two(Field::Target(target), Field::Slot(slot));
+                let advance = plain(0x42, fields, 0, 1, Flow::Branch(target));
+                looping(Looping::Advance, advance)
             }
             Op::Throw => plain(0x49, Fields::none(), 1, 0, Flow::End),
             Op::Return => plain(0x4a, Fields::none(), 0, 0, Flow::End),

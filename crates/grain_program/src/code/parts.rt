@@ -4,6 +4,7 @@ use crate::code::caps::Caps;
 use crate::code::chains::Chains;
 use crate::code::functions::Functions;
 use crate::code::pools::{AssignOps, Names, Positions, Tokens};
+use crate::code::switches::Switches;
 use grain_fault::Position;
 use grain_value::{Array, Blob, Text, Token};
 
@@ -62,6 +63,8 @@ pub struct Parts {
     pub assign_ops: AssignOps,
     /// The chains, by index.
     pub chains: Chains,
+    /// The switches, by index.
+    pub switches: Switches,
     /// The positions of the instructions, by ascending address.
     pub positions: Positions,
     /// The name of the script that the code was made from, if it has one.

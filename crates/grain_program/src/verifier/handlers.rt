@@ -2,7 +2,7 @@
 //! same where their numbers are.
 
 ghost use Rattle.std.specs.Prelude.{◌≡◌, ◌<◌, ◌≤◌, ◌^◌, [], ◌∷◌, length, IfOk, MatchOption};
-ghost use Rattle.grain_program.specs.Shapes.{outer, handled, lacks_handler, is_under, shape_after, clash};
+ghost use Rattle.grain_program.specs.Shapes.{outer, handled, lacks_handler, is_under, lacks, shape_after, clash};
 ghost use Rattle.grain_program.specs.HandlerLists.{handler_of, list_at, Grows};
 ghost use Rattle.grain_program.specs.Numbered.{shape_of, Leaves};
 
@@ -26,6 +26,8 @@ pub struct Node {
     pub variable: Option<u16>,
     /// How many operands there were at its push.
     pub height: u32,
+    /// How many cursors there were at its push.
+    pub cursors: u32,
 }
 
 /// Lists of handlers by number. Number 0 is the empty one.
@@ -123,25 +125,31 @@ impl HandlerLists {
         }
     }
 
-    /// Whether with this number of operands there are fewer than at the push of the innermost
-    /// handler.
-    fn is_under(&self, height: u32, list: u32) -> bool
+    /// Whether with this number of operands and of cursors there are fewer of either than at the push
+    /// of the innermost handler.
+    fn is_under(&self, height: u32, cursors: u32, list: u32) -> bool
         requires { list ≤ length self.now }
-        ensures { result ≡ is_under height (list_at self.now list) }
+        ensures { result ≡ is_under height cursors (list_at self.now list) }
     {
         match self.innermost(list) {
-            Some(node) => height < node.height,
+            Some(node) => height < node.height || cursors < node.cursors,
             None => false,
         }
     }
 
-    /// The number of the list after an instruction that leaves this number of operands.
-    fn handled(&mut self, handling: Handling, height: u32, list: u32) -> Result<u32, OutOfMemory>
+    /// The number of the list after an instruction that leaves this number of operands and of cursors.
+    fn handled(
+        &mut self,
+        handling: Handling,
+        height: u32,
+        cursors: u32,
+        list: u32,
+    ) -> Result<u32, OutOfMemory>
         requires { list ≤ length self.old }
         ensures grown { Grows self.old self.new }
         ensures within { IfOk result (λ after. after ≤ length self.new) }
         ensures exact { IfOk result (λ after. list_at self.new after ≡ handled handling height
-            (list_at self.old list)) }
+            cursors (list_at self.old list)) }
     {
         match handling {
             Handling::Keep => Ok(list),
@@ -150,9 +158,20 @@ impl HandlerLists {
                 target,
                 variable,
                 height,
+                cursors,
             }),
             Handling::Pop => Ok(self.outer(list)),
         }
+    }
+
+    /// Whether there are too few operands, cursors or handlers for an instruction of this effect.
+    fn lacks(&self, effect: Effect, shape: NumberedShape) -> bool
+        requires { shape.list ≤ length self.now }
+        ensures { result ≡ lacks effect (shape_of self.now shape) }
+    {
+        u64::from(shape.height) < effect.takes
+            || shape.cursors < effect.looping.takes()
+            || self.lacks_handler(effect.handling, shape.list)
     }
 
     /// The shape after an instruction of this effect at the address, where a frame may have max
@@ -171,12 +190,12 @@ impl HandlerLists {
         ensures exact { Leaves self.new result (shape_after max address effect (shape_of self.old
             shape)) }
     {
-        let height = u64::from(shape.height);
-        if height < effect.takes || self.lacks_handler(effect.handling, shape.list) {
+        if self.lacks(effect, shape) {
             return Err(Refusal::Underflow(address));
         }
-        let left = (height - effect.takes) as u32;
-        if self.is_under(left, shape.list) {
+        let left = (u64::from(shape.height) - effect.takes) as u32;
+        let left_cursors = shape.cursors - effect.looping.takes();
+        if self.is_under(left, left_cursors, shape.list) {
             return Err(Refusal::UnderTry(address));
         }
         let height = u64::from(left) + u64::from(effect.gives);
@@ -184,8 +203,16 @@ impl HandlerLists {
             return Err(Refusal::TooDeep(address));
         }
         let height = height as u32;
-        match self.handled(effect.handling, height, shape.list) {
-            Ok(list) => Ok(NumberedShape { height, list }),
+        // No code is so long that there are more cursors.
+        let Some(cursors) = left_cursors.checked_add(effect.looping.gives()) else {
+            return Err(Refusal::Memory);
+        };
+        match self.handled(effect.handling, height, cursors, shape.list) {
+            Ok(list) => Ok(NumberedShape {
+                height,
+                cursors,
+                list,
+            }),
             Err(_) => Err(Refusal::Memory),
         }
     }
@@ -204,6 +231,9 @@ impl HandlerLists {
         // This opens the type's invariant for the proof: two lists are equal where their numbers are.
         let _ = &self.nodes;
         if known.height != other.height {
+            return Some(Refusal::HeightDisagrees(address));
+        }
+        if known.cursors != other.cursors {
             return Some(Refusal::HeightDisagrees(address));
         }
         if known.list == other.list {

@@ -1,4 +1,4 @@
-//! The rules of heights, which look at the operands on all ways through the code.
+//! The rules of heights, which look at the operands and the cursors on all ways through the code.
 
 ghost use Rattle.std.specs.Prelude.{◌≡◌, ◌⊎◌, IfOk, IfErr};
 ghost use Rattle.grain_program.specs.View.{view_of};
@@ -8,6 +8,7 @@ ghost use Rattle.grain_program.specs.declared.verifier.refusals.Refusal.TheVaria
 
 use crate::code::parts::{Chunk, Parts};
 use crate::verifier::analysis::HeightAnalysis;
+use crate::verifier::reached::Reached;
 use crate::verifier::refusals::Refusal;
 use std::alloc::Global;
 
@@ -20,8 +21,11 @@ pub fn check_heights(alloc: Global, parts: &Parts, chunks: &[Chunk]) -> Result<(
     let Ok(mut analysis) = HeightAnalysis::new(alloc, parts.code.len()) else {
         return Err(Refusal::Memory);
     };
+    let Ok(mut reached) = Reached::new(alloc, parts.switches.len()) else {
+        return Err(Refusal::Memory);
+    };
     for chunk in chunks {
-        if let Err(refusal) = analysis.analyse_chunk(parts, *chunk) {
+        if let Err(refusal) = analysis.analyse_chunk(alloc, parts, &mut reached, *chunk) {
             return Err(refusal);
         }
     }

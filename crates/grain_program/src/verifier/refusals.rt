@@ -19,21 +19,22 @@ pub enum Refusal {
     /// or a function that is entered there has a name, a parameter's name or a type's name that is no
     /// entry of the names.
     PoolIndex(usize),
-    /// The target of the instruction there is no instruction of the same chunk.
+    /// A target of the instruction there, or of its switch, is no instruction of the same chunk.
     JumpTarget(usize),
     /// The instruction there is its chunk's last and goes on past it, or an empty chunk lies
     /// there.
     FallsOff(usize),
-    /// Two ways to the instruction there come with different numbers of operands.
+    /// Two ways to the instruction there come with different numbers of operands or of cursors.
     HeightDisagrees(usize),
     /// There are more operands after the instruction there than the chunk may have.
     TooDeep(usize),
-    /// There are fewer operands than the instruction there takes, or no handler that it could take
-    /// away.
+    /// There are fewer operands than the instruction there takes, or no cursor for it, or no handler
+    /// that it could take away.
     Underflow(usize),
     /// Two ways to the instruction there come with different handlers.
     HandlerDisagrees(usize),
-    /// The instruction there takes operands that were there where the innermost handler was pushed.
+    /// The instruction there takes operands or a cursor that were there where the innermost handler was
+    /// pushed.
     UnderTry(usize),
     /// The chain of this index has no step, or assigns to a temporary value, or one of its steps uses
     /// an operand that it does not have, or it and the chains before it have more than 2^32 - 1 slots

@@ -1,16 +1,17 @@
 //! The layout, and the rules of single instructions: each is read and whole, its indices name
-//! entries of their pools, its target is an instruction, it does not go on past its chunk, and
+//! entries of their pools, its targets are instructions, it does not go on past its chunk, and
 //! the program has the capability that it needs. No chunk is empty, and the functions' names are
 //! entries of their pool.
 
-ghost use Rattle.std.specs.Prelude.{◌≡◌, ◌==◌, ◌⊎◌, ◌≤◌, ℕ, List, length, IfOk, IfErr, Some, None};
+ghost use Rattle.std.specs.Prelude.{◌≡◌, ◌==◌, ◌⊎◌, ◌<◌, ◌≤◌, ℕ, List, length, map, slice_get, IfOk, IfErr, Some, None};
 ghost use Rattle.grain_program.specs.View.{view_of};
 ghost use Rattle.grain_program.specs.Fields.{every};
 ghost use Rattle.grain_program.specs.Indices.{in_pool, all_below, below_if, is_named};
 ghost use Rattle.grain_program.specs.Decoding.{op_at};
+ghost use Rattle.grain_program.specs.Switches.{targets_if};
 ghost use Rattle.grain_program.specs.Layout.{chunks_in, layout_fault, most_code};
 ghost use Rattle.grain_program.specs.Rules.{IsSplit, RefusedBeforeChains};
-ghost use Rattle.grain_program.specs.Owners.{owner_at, lands, stays_in, rule_in, rule_at, IsFirstFound, first_empty, first_misnamed};
+ghost use Rattle.grain_program.specs.Owners.{owner_at, owns_all, home_of, lands, stays_in, rule_in, rule_at, IsFirstFound, first_empty, first_misnamed};
 ghost use Rattle.grain_program.specs.declared.verifier.refusals.Refusal.TheVariants.{Memory};
 
 use crate::code::bytes::decode;
@@ -18,6 +19,7 @@ use crate::code::effects::Flow;
 use crate::code::fields::{Field, Fields};
 use crate::code::functions::Function;
 use crate::code::parts::{Chunk, Parts};
+use crate::verifier::homes::{homes_of, owner_end};
 use crate::verifier::layout::misplaced;
 use crate::verifier::owners::{Owner, owners_of};
 use crate::verifier::pool_records::{has_assign_op, has_chain};
@@ -34,6 +36,7 @@ fn has_entry(parts: &Parts, field: Field) -> bool
         Field::Name(index) => (index as usize) < parts.names.len(),
         Field::Assignment(index) => has_assign_op(parts, u32::from(index)),
         Field::Chain(index) => has_chain(parts, index),
+        Field::Switch(index) => (index as usize) < parts.switches.len(),
         Field::Token(index) => (index as usize) < parts.tokens.len(),
         Field::Slot(_) => true,
         Field::Target(_) => true,
@@ -61,22 +64,36 @@ fn has_entries(parts: &Parts, fields: &Fields) -> bool
 fn owns(owners: &[Owner], end: usize, target: u32) -> bool
     ensures { result ≡ ((owner_at owners.now target).end == end) }
 {
-    let owner_end = match owners.get(target as usize) {
-        Some(owner) => owner.end,
-        None => 0,
-    };
-    owner_end as usize == end
+    owner_end(owners, target) as usize == end
 }
 
-/// Whether the operand, if it is an address, names an instruction of the chunk of this end.
-fn lands(owners: &[Owner], end: usize, field: Field) -> bool
-    ensures { result ≡ lands owners.now end field }
+/// Whether the chunk of this end owns an instruction at each target of the switch at the index, by the
+/// homes of the switches.
+fn owns_targets(parts: &Parts, owners: &[Owner], homes: &[u32], end: usize, index: u16) -> bool
+    requires homes { homes.now ≡ map (home_of owners.now) parts.now.switches }
+    requires some { 0 < end }
+    ensures { result ≡ owns_all owners.now end (targets_if (slice_get parts.now.switches index)) }
+{
+    let _ = parts;
+    let _ = owners;
+    match homes.get(index as usize) {
+        Some(home) => *home as usize == end,
+        None => true,
+    }
+}
+
+/// Whether the operand, if it is an address or a switch, names instructions of the chunk of this end.
+fn lands(parts: &Parts, owners: &[Owner], homes: &[u32], end: usize, field: Field) -> bool
+    requires homes { homes.now ≡ map (home_of owners.now) parts.now.switches }
+    requires some { 0 < end }
+    ensures { result ≡ lands (view_of parts.now) owners.now end field }
 {
     match field {
         Field::Constant(_) => true,
         Field::Name(_) => true,
         Field::Assignment(_) => true,
         Field::Chain(_) => true,
+        Field::Switch(index) => owns_targets(parts, owners, homes, end, index),
         Field::Token(_) => true,
         Field::Slot(_) => true,
         Field::Target(address) => owns(owners, end, address),
@@ -85,14 +102,17 @@ fn lands(owners: &[Owner], end: usize, field: Field) -> bool
     }
 }
 
-/// Whether each address among the operands names an instruction of the chunk of this end.
-fn has_targets(owners: &[Owner], end: usize, fields: &Fields) -> bool
-    ensures { result ≡ every (lands owners.now end) fields.now }
+/// Whether each address and each switch among the operands names instructions of the chunk of this
+/// end.
+fn has_targets(parts: &Parts, owners: &[Owner], homes: &[u32], end: usize, fields: &Fields) -> bool
+    requires homes { homes.now ≡ map (home_of owners.now) parts.now.switches }
+    requires some { 0 < end }
+    ensures { result ≡ every (lands (view_of parts.now) owners.now end) fields.now }
 {
     let places = fields.as_slice();
     for place in places {
         if let Some(field) = place
-            && !lands(owners, end, *field)
+            && !lands(parts, owners, homes, end, *field)
         {
             return false;
         }
@@ -108,13 +128,22 @@ fn stays(end: usize, next: usize, flow: Flow) -> bool
         Flow::Next => next < end,
         Flow::Jump(_) => true,
         Flow::Branch(_) => next < end,
+        Flow::Switch(_) => true,
         Flow::End => true,
     }
 }
 
 /// The first rule that the instruction at the address breaks, in a chunk of this end.
-fn instruction_rule(parts: &Parts, owners: &[Owner], end: usize, address: usize) -> Option<Refusal>
-    requires { length parts.now.code ≤ most_code }
+fn instruction_rule(
+    parts: &Parts,
+    owners: &[Owner],
+    homes: &[u32],
+    end: usize,
+    address: usize,
+) -> Option<Refusal>
+    requires small { length parts.now.code ≤ most_code }
+    requires homes { homes.now ≡ map (home_of owners.now) parts.now.switches }
+    requires some { 0 < end }
     ensures { result ≡ rule_in (view_of parts.now) owners.now end address (op_at parts.now.code
         address) }
 {
@@ -127,7 +156,7 @@ fn instruction_rule(parts: &Parts, owners: &[Owner], end: usize, address: usize)
         Some(Refusal::Undecodable(address))
     } else if !has_entries(parts, &descriptor.fields) {
         Some(Refusal::PoolIndex(address))
-    } else if !has_targets(owners, end, &descriptor.fields) {
+    } else if !has_targets(parts, owners, homes, end, &descriptor.fields) {
         Some(Refusal::JumpTarget(address))
     } else if !stays(end, next, descriptor.flow) {
         Some(Refusal::FallsOff(address))
@@ -139,8 +168,9 @@ fn instruction_rule(parts: &Parts, owners: &[Owner], end: usize, address: usize)
 }
 
 /// The first rule that an instruction at the address breaks.
-fn address_rule(parts: &Parts, owners: &[Owner], address: usize) -> Option<Refusal>
-    requires { length parts.now.code ≤ most_code }
+fn address_rule(parts: &Parts, owners: &[Owner], homes: &[u32], address: usize) -> Option<Refusal>
+    requires small { length parts.now.code ≤ most_code }
+    requires homes { homes.now ≡ map (home_of owners.now) parts.now.switches }
     ensures { result ≡ rule_at (view_of parts.now) owners.now address }
 {
     let end = match owners.get(address) {
@@ -150,17 +180,18 @@ fn address_rule(parts: &Parts, owners: &[Owner], address: usize) -> Option<Refus
     if end == 0 {
         None
     } else {
-        instruction_rule(parts, owners, end as usize, address)
+        instruction_rule(parts, owners, homes, end as usize, address)
     }
 }
 
 /// The first rule that an instruction breaks, at the lowest address.
-fn first_rule(parts: &Parts, owners: &[Owner]) -> Option<Refusal>
-    requires { length parts.now.code ≤ most_code }
+fn first_rule(parts: &Parts, owners: &[Owner], homes: &[u32]) -> Option<Refusal>
+    requires small { length parts.now.code ≤ most_code }
+    requires homes { homes.now ≡ map (home_of owners.now) parts.now.switches }
     ensures { IsFirstFound (rule_at (view_of parts.now) owners.now) (length owners.now) result }
 {
     for address in 0..owners.len() {
-        if let Some(refusal) = address_rule(parts, owners, address) {
+        if let Some(refusal) = address_rule(parts, owners, homes, address) {
             return Some(refusal);
         }
     }
@@ -236,8 +267,11 @@ fn check_rules(alloc: Global, parts: &Parts, chunks: &[Chunk]) -> Result<(), Ref
     let Ok(owners) = owners_of(alloc, &parts.code, chunks) else {
         return Err(Refusal::Memory);
     };
+    let Ok(homes) = homes_of(alloc, &owners, parts.switches.as_slice()) else {
+        return Err(Refusal::Memory);
+    };
     let by_functions = earlier(misnamed_function(parts), empty_chunk(chunks));
-    match earlier(first_rule(parts, &owners), by_functions) {
+    match earlier(first_rule(parts, &owners, &homes), by_functions) {
         Some(refusal) => Err(refusal),
         None => Ok(()),
     }

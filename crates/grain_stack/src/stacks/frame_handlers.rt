@@ -1,12 +1,13 @@
 //! The handlers of the innermost frame.
 
 ghost use Rattle.std.specs.Borrow.{sem};
-ghost use Rattle.std.specs.Prelude.{◌≡◌, ◌<◌, ◌≤◌, ◌-◌, drop, Some, ◌∷◌, length, is_ok, if◌then◌else◌, option_map};
-ghost use Rattle.grain_stack.specs.Handlers.{first_of};
+ghost use Rattle.std.specs.Prelude.{◌≡◌, ◌<◌, ◌≤◌, ◌-◌, drop, Some, ◌∷◌, length, is_ok, if◌then◌else◌};
+ghost use Rattle.std.specs.Option.{option_copied};
+ghost use Rattle.grain_stack.specs.Entries.{first_of};
 ghost use Rattle.grain_stack.specs.Lending.{LendsHandler};
 
 use super::Stacks;
-use crate::handlers::{FrameHandler, Handler};
+use crate::handlers::Handler;
 use grain_value::OutOfMemory;
 
 impl Stacks {
@@ -18,7 +19,7 @@ impl Stacks {
             else self.old) }
     {
         let depth = self.outer.len();
-        self.handlers.push(FrameHandler { depth, handler })?;
+        self.handlers.push(depth, handler)?;
         Ok(())
     }
 
@@ -30,20 +31,15 @@ impl Stacks {
               result ∷ self.new.handlers;
         } }
     {
-        match self.handlers.pop() {
-            Some(newest) => newest.handler,
-            None => unreachable!(),
-        }
+        self.handlers.pop()
     }
 
     /// The frame's innermost handler, if it has one.
     pub fn innermost_handler(&self) -> Option<&Handler>
-        ensures { option_map (λ h. h.now) result ≡ first_of self.now.handlers }
+        ensures { option_copied result ≡ first_of self.now.handlers }
     {
-        match self.handlers.last() {
-            Some(newest) if newest.depth == self.outer.len() => Some(&newest.handler),
-            _ => None,
-        }
+        let depth = self.outer.len();
+        self.handlers.innermost(depth)
     }
 
     /// How many handlers the frame has. It looks at one of another frame at most.
@@ -51,13 +47,7 @@ impl Stacks {
         ensures { result ≡ length self.now.handlers }
     {
         let depth = self.outer.len();
-        let all = self.handlers.len();
-        'own: for count in 0..all {
-            if self.handlers[all - 1 - count].depth != depth {
-                return count;
-            }
-        }
-        all
+        self.handlers.count(depth)
     }
 
     /// The frame's innermost handler, to be changed.
@@ -66,10 +56,7 @@ impl Stacks {
         ensures* writes_back { sem 𝓛 (LendsHandler self.entry result) }
         ensures value { Some result.now ≡ first_of self.old.handlers }
     {
-        match self.handlers.last_mut() {
-            Some(newest) => &mut newest.handler,
-            None => unreachable!(),
-        }
+        self.handlers.newest_mut()
     }
 
     /// Keeps the first `count` of the frame's handlers, those that were pushed first.
@@ -80,9 +67,7 @@ impl Stacks {
               drop (length self.old.handlers - count) self.old.handlers;
         } }
     {
-        let more = self.handlers() - count;
-        'cut: for _ in 0..more {
-            drop(self.pop_handler());
-        }
+        let depth = self.outer.len();
+        self.handlers.cut(depth, count);
     }
 }

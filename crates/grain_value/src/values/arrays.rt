@@ -1,6 +1,7 @@
 //! Lists of script values.
 
-ghost use Rattle.std.specs.Prelude.{◌≡◌, ◌==◌, ◌<◌, ◌^◌, ◌++◌, ◌∷◌, [], length, Some, is_ok, if◌then◌else◌, option_map, slice_get};
+ghost use Rattle.std.specs.Prelude.{◌≡◌, ◌==◌, ◌<◌, ◌^◌, ◌++◌, ◌∷◌, [], length, Some, is_ok, if◌then◌else◌, option_map, slice_get, slice_set};
+ghost use Rattle.grain_value.specs.Tree.{unit};
 ghost use Rattle.grain_value.specs.View.{tree, trees};
 
 use super::{Array, Dynamic, MOST_LEVELS};
@@ -46,6 +47,15 @@ impl Array {
         ensures { slice_get self.now index ≡ Some (tree result.now) }
     {
         &self.values[index]
+    }
+
+    /// Takes the value at an index of the list, and leaves unit there.
+    pub fn take(&mut self, index: usize) -> Dynamic
+        requires { index < length self.old }
+        ensures value { slice_get self.old index ≡ Some (tree result) }
+        ensures rest { self.new ≡ slice_set self.old index unit }
+    {
+        self.values[index].take()
     }
 
     /// The values, moved out of the list.

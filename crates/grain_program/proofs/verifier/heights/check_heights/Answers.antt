@@ -6,8 +6,8 @@ use Rattle.grain_program.specs.Numbered.{state_of}
 use Rattle.grain_program.proofs.Loops.{analysable, found}
 use Rattle.grain_program.proofs.verifier.heights.check_heights.Goals as goal
 
-pub analyse_chunk-requires : goal.analyse_chunk-requires
-analyse_chunk-requires c =
+pub analyse_chunk-requires-clause-analysable : goal.analyse_chunk-requires-clause-analysable
+analyse_chunk-requires-clause-analysable c =
     analysable (view_of c.args.parts.now) c.args.chunks.now c.requires c.loop-chunk.chunk-index _
     (slice_get-get_or c.args.chunks.now c.loop-chunk.chunk-index _ c.loop-chunk-test.true)
     (state_of c.loop-chunk.analysis) c.loop-chunk.invariant.long c.loop-chunk.invariant.none

@@ -2,6 +2,7 @@
 use Rattle.std.proofs.Common.{◌≡◌, drop, length, []}
 use Rattle.grain_program.specs.Typing.{analyse_from, analysis}
 use Rattle.grain_program.specs.View.{view_of}
+use Rattle.grain_program.specs.Reached.{AreReached}
 use Rattle.grain_program.specs.Numbered.{state_of}
 use Rattle.grain_program.proofs.verifier.heights.check_heights.Given as goal
 
@@ -11,4 +12,5 @@ invariant-loop-chunk l = record {
       ≡ analysis (view_of l.parts) l.chunks;
   long : length (state_of l.analysis).shapes ≡ length l.parts.code;
   none : l.analysis.waiting ≡ [];
+  reached : AreReached (view_of l.parts) l.reached (state_of l.analysis);
 }

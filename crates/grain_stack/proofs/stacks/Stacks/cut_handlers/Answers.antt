@@ -1,29 +1,34 @@
--- One handler more goes.
-use Rattle.std.proofs.Common.{◌≡◌, ◌∙◌, ◌+◌, ℕ, zero, suc, List, [], ◌∷◌, drop, sym, ap, arith}
+-- The frame's depth is how many frames wait.
+use Rattle.std.proofs.Common.{◌≡◌, ◌≤◌, ◌∙◌, ℕ, List, length, sym, subst, ap}
 use Rattle.grain_stack.specs.declared.handlers.Handler.{Handler}
+use Rattle.grain_stack.specs.Entries.{entries_at}
 use Rattle.grain_stack.specs.Views.{StacksView}
+use Rattle.grain_stack.proofs.Belonging.{depth_is, ordered_here, handlers_view, handlers_sound}
+use Rattle.grain_stack.proofs.Depths.{cut_at}
 use Rattle.grain_stack.proofs.stacks.Stacks.cut_handlers.Goals as goal
 
-drop_next : (hs : List Handler) (k : ℕ) (r : Handler) (rest : List Handler) →
-    drop k hs ≡ r ∷ rest → drop (suc k) hs ≡ rest
-drop_next [] zero r rest e = absurd cc
-drop_next [] (suc k) r rest e = absurd cc
-drop_next (h ∷ hs) zero r rest e = cc
-drop_next (h ∷ hs) (suc k) r rest e = drop_next hs k r rest e
+pub cut-requires : goal.cut-requires
+cut-requires c =
+    let own : entries_at c.len-depth.result c.self.inside.handlers ≡ c.args.self.now.handlers =
+    ap (λ (n : ℕ). entries_at n c.self.inside.handlers)
+    (depth_is c.self.inside c.len-depth.result c.len-depth.ensures.value)
+    ∙ ap (λ (v : StacksView). v.handlers) c.self.view_is in
+    record {
+      ordered =
+          (ordered_here c.self.inside c.len-depth.result c.self.invariant
+          c.len-depth.ensures.value).handlers;
+      there = subst (λ (xs : List Handler). c.args.count ≤ length xs) (sym own) c.requires.there;
+    }
 
-popped : (s t u : StacksView) (k : ℕ) (r : Handler) →
-    u ≡ record s { handlers = drop k s.handlers } →
-    u ≡ record t { handlers = r ∷ t.handlers } →
-    t ≡ record s { handlers = drop (k + 1) s.handlers }
-popped s t u k r was is =
-    let e : record s { handlers = drop k s.handlers } ≡ record t { handlers = r ∷ t.handlers } =
-    sym was ∙ is in
-    let next : k + 1 ≡ suc k = omega arith in
-    let left : drop (k + 1) s.handlers ≡ t.handlers =
-    rw next (drop_next s.handlers k r t.handlers (ap (λ (v : StacksView). v.handlers) e)) in
-    rw left (ap (λ (v : StacksView). record v { handlers = t.handlers }) (sym e))
+pub invariant_of-self : goal.invariant_of-self
+invariant_of-self c =
+    handlers_sound c.self.inside c.cut.new.self _ c.self.invariant
+    (cut_at _ c.len-depth.result c.args.count c.self.inside.handlers c.cut.new.self
+    (depth_is c.self.inside c.len-depth.result c.len-depth.ensures.value) c.cut.ensures)
 
-pub cut-preserved : goal.cut-preserved
-cut-preserved c =
-    popped c.args.self.now c.pop_handler.new.self c.cut.self c.cut.counter c.pop_handler.result
-    c.cut.invariant c.pop_handler.ensures
+pub returns : goal.returns
+returns c =
+    rw (← c.self.view_is)
+    (handlers_view c.self.inside c.cut.new.self _ c.self.invariant
+    (cut_at _ c.len-depth.result c.args.count c.self.inside.handlers c.cut.new.self
+    (depth_is c.self.inside c.len-depth.result c.len-depth.ensures.value) c.cut.ensures))

@@ -1,5 +1,5 @@
 use Rattle.std.proofs.Common.{◌∙◌, false, length, refl, ap, arith, rules}
-use Rattle.grain_stack.proofs.Handling.{entered_view}
+use Rattle.grain_stack.proofs.Belonging.{entered_view}
 use Rattle.grain_stack.specs.declared.floors.Floor.{Floor}
 use Rattle.grain_stack.specs.declared.stacks.Stacks.TheInside.{Inside}
 use Rattle.grain_stack.proofs.Nesting.{same_sound, entered_sound}
@@ -52,7 +52,7 @@ returns c =
       noted = c.self.inside.noted;
     } in
     rw (← c.self.view_is)
-    (entered_view c.self.inside entered floor c.args.operands c.self.invariant.handlers
+    (entered_view c.self.inside entered floor c.args.operands c.self.invariant.ordered
     c.reserve.ensures.operands
     (c.len-self-inside.ensures.value ∙ ap length c.reserve.ensures.operands) c.from-room.ensures
     refl c.in_ok-push.ensures refl refl refl refl c.reserve-2.ensures.items (search rules))

@@ -3,7 +3,7 @@ use Rattle.std.proofs.Common.{◌≡◌, ◌∙◌, ◌-◌, ◌≤◌, ◌++◌
 use Rattle.std.proofs.lemmas.List.{take-append-le}
 use Rattle.std.proofs.Math.Seq.{take-length}
 use Rattle.grain_value.specs.Operands.{under}
-use Rattle.grain_stack.proofs.Handling.{entered_view}
+use Rattle.grain_stack.proofs.Belonging.{entered_view}
 use Rattle.grain_stack.proofs.Lists.{length_front}
 use Rattle.grain_stack.specs.Filled.{Filled}
 use Rattle.grain_stack.specs.Views.{StacksView, with_frame}
@@ -110,7 +110,7 @@ returns-clause-frames c =
     } in
     let floor : Floor = record { bottom = s.bottom; room = s.room; noted = s.noted } in
     rw (← c.self.view_is)
-    (entered_view (record s { slots = v }) entered floor c.args.operands c.self.invariant.handlers
+    (entered_view (record s { slots = v }) entered floor c.args.operands c.self.invariant.ordered
     refl c.len-self-inside.ensures.value c.from-room.ensures
     refl c.in_ok-push.ensures refl refl refl refl c.reserve-2.ensures.items (search rules)
     ∙ ap (with_frame c.args.operands) (less_view s v k ops le c.self.invariant.bottom))

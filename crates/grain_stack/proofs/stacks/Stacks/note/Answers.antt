@@ -1,6 +1,6 @@
 use Rattle.std.proofs.Common.{◌≡◌, length, take, false, ap, ◌∙◌, refl, arith}
 use Rattle.grain_stack.specs.Views.{StacksView}
-use Rattle.grain_stack.specs.Floors.{frames_on, floors, newest}
+use Rattle.grain_stack.specs.Floors.{frames_on, floors, belongings}
 use Rattle.grain_stack.proofs.Nesting.{note_room, noted_sound}
 use Rattle.grain_stack.proofs.stacks.Stacks.note.Goals as goal
 
@@ -10,7 +10,7 @@ unreachable-requires c =
     ap (λ (v : StacksView). v.noted) c.self.view_is ∙ c.requires.first in
     let outer :
     length (frames_on (take c.self.inside.bottom c.self.inside.slots.operands)
-    (newest c.self.inside) (floors c.self.inside)) ≡ length c.args.self.now.outer =
+    (belongings c.self.inside) (floors c.self.inside)) ≡ length c.args.self.now.outer =
     ap (λ (v : StacksView). length v.outer) c.self.view_is in
     omega (
       arith,
@@ -25,7 +25,7 @@ invariant_of-self c =
     ap (λ (v : StacksView). v.noted) c.self.view_is ∙ c.requires.first in
     let outer :
     length (frames_on (take c.self.inside.bottom c.self.inside.slots.operands)
-    (newest c.self.inside) (floors c.self.inside)) ≡ length c.args.self.now.outer =
+    (belongings c.self.inside) (floors c.self.inside)) ≡ length c.args.self.now.outer =
     ap (λ (v : StacksView). length v.outer) c.self.view_is in
     noted_sound c.self.inside _ c.args.fault
     (take c.self.inside.bottom c.self.inside.slots.operands) c.self.invariant first

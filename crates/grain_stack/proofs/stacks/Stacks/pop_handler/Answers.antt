@@ -1,28 +1,35 @@
 -- The newest handler is the frame's.
-use Rattle.std.proofs.Common.{◌≡◌, ◌<◌, ◌∙◌, ◌∷◌, [], length, reverse, refl, sym, ap}
-use Rattle.std.proofs.lemmas.List.{reverse-append}
+use Rattle.std.proofs.Common.{◌<◌, ◌∙◌, length, sym, subst}
+use Rattle.grain_stack.specs.Entries.{entries_at}
+use Rattle.grain_stack.specs.Floors.{floors, stacks_view}
 use Rattle.grain_stack.specs.Views.{StacksView}
-use Rattle.grain_stack.specs.Floors.{floors, newest, handlers_at}
-use Rattle.grain_stack.proofs.Handling.{newest_here, with_handler}
-use Rattle.grain_stack.proofs.Nesting.{less_sound}
+use Rattle.grain_stack.proofs.Belonging.{handlers_view, handlers_sound, handler_taken}
+use Rattle.grain_stack.proofs.Depths.{some_there, popped_at, popped_is}
 use Rattle.grain_stack.proofs.stacks.Stacks.pop_handler.Goals as goal
+
+pub pop-requires : goal.pop-requires
+pop-requires c =
+    let some : 0 < length (entries_at (length (floors c.self.inside)) c.self.inside.handlers) =
+    subst (λ (v : StacksView). 0 < length v.handlers) (sym c.self.view_is) c.requires.there in
+    record { there = some_there _ c.self.inside.handlers some }
 
 pub invariant_of-self : goal.invariant_of-self
 invariant_of-self c =
-    less_sound c.self.inside _ c.in-Some.newest c.self.invariant refl refl refl refl refl refl
-    c.in-Some.ensures.items
+    let some : 0 < length (entries_at (length (floors c.self.inside)) c.self.inside.handlers) =
+    subst (λ (v : StacksView). 0 < length v.handlers) (sym c.self.view_is) c.requires.there in
+    handlers_sound c.self.inside c.pop.new.self _ c.self.invariant
+    (popped_at _ c.self.inside.handlers c.pop.new.self c.pop.result c.self.invariant.ordered.handlers
+    some c.pop.ensures)
 
 pub returns : goal.returns
 returns c =
-    let on : newest c.self.inside ≡ c.in-Some.newest ∷ reverse c.pop.new.self.items =
-    ap reverse c.in-Some.ensures.items ∙ reverse-append c.pop.new.self.items
-    (c.in-Some.newest ∷ []) in
-    let some : 0 < length (handlers_at (length (floors c.self.inside)) (newest c.self.inside)) =
-    rw (ap (λ (v : StacksView). v.handlers) c.self.view_is) c.requires.there in
-    let here =
-    newest_here (length (floors c.self.inside)) c.in-Some.newest (reverse c.pop.new.self.items)
-    (rw on at c.self.invariant.handlers) (rw on at some) in
+    let some : 0 < length (entries_at (length (floors c.self.inside)) c.self.inside.handlers) =
+    subst (λ (v : StacksView). 0 < length v.handlers) (sym c.self.view_is) c.requires.there in
     sym c.self.view_is
-    ∙ with_handler (record c.self.inside { handlers = c.pop.new.self }) c.self.inside c.in-Some.newest
-    refl refl refl refl refl
-    refl refl c.in-Some.ensures.items here
+    ∙ handler_taken (stacks_view c.self.inside)
+    (stacks_view (record c.self.inside { handlers = c.pop.new.self })) c.pop.result _
+    (handlers_view c.self.inside c.pop.new.self _ c.self.invariant
+    (popped_at _ c.self.inside.handlers c.pop.new.self c.pop.result c.self.invariant.ordered.handlers
+    some c.pop.ensures))
+    (popped_is _ c.self.inside.handlers c.pop.new.self c.pop.result c.self.invariant.ordered.handlers
+    some c.pop.ensures)

@@ -1,17 +1,19 @@
 -- One handler more.
-use Rattle.std.proofs.Common.{◌≡◌, length, refl, rules}
-use Rattle.std.proofs.lemmas.List.{length-reverse}
-use Rattle.grain_stack.specs.declared.handlers.FrameHandler.{FrameHandler}
-use Rattle.grain_stack.specs.Floors.{floors}
-use Rattle.grain_stack.proofs.Handling.{with_handler}
+use Rattle.grain_stack.proofs.Belonging.{depth_is, handlers_view, handlers_sound}
+use Rattle.grain_stack.proofs.Depths.{pushed_at}
 use Rattle.grain_stack.proofs.stacks.Stacks.push_handler.Goals as goal
+
+pub invariant_of-self-2 : goal.invariant_of-self-2
+invariant_of-self-2 c =
+    handlers_sound c.self.inside c.push.new.self _ c.self.invariant
+    (pushed_at _ c.len-depth.result c.self.inside.handlers c.push.new.self c.args.handler
+    c.self.invariant.ordered.handlers
+    (depth_is c.self.inside c.len-depth.result c.len-depth.ensures.value) c.in_ok-push.ensures)
 
 pub returns : goal.returns
 returns c =
-    let h : FrameHandler = record { depth = c.len-depth.result; handler = c.args.handler } in
-    let long : length (floors c.self.inside) ≡ length c.self.inside.outer =
-    length-reverse c.self.inside.outer in
-    let here : h.depth ≡ length (floors c.self.inside) = search rules in
     rw (← c.self.view_is)
-    (with_handler c.self.inside (record c.self.inside { handlers = c.push.new.self }) h refl refl
-    refl refl refl refl refl c.in_ok-push.ensures.items here)
+    (handlers_view c.self.inside c.push.new.self _ c.self.invariant
+    (pushed_at _ c.len-depth.result c.self.inside.handlers c.push.new.self c.args.handler
+    c.self.invariant.ordered.handlers
+    (depth_is c.self.inside c.len-depth.result c.len-depth.ensures.value) c.in_ok-push.ensures))

@@ -1,7 +1,7 @@
 use Rattle.std.proofs.Common.{◌≡◌, ◌<◌, ◌∙◌, List, length, take, sym, ap, arith}
 use Rattle.grain_stack.specs.Views.{StackFrame, StacksView}
 use Rattle.grain_stack.specs.Filled.{Filled}
-use Rattle.grain_stack.specs.Floors.{frames_on, floors, newest}
+use Rattle.grain_stack.specs.Floors.{frames_on, floors, belongings}
 use Rattle.grain_stack.proofs.Lists.{length_front}
 use Rattle.grain_stack.proofs.Nesting.{room_below}
 use Rattle.grain_stack.proofs.stacks.Stacks.settle_value.Goals as goal
@@ -9,7 +9,7 @@ use Rattle.grain_stack.proofs.stacks.Stacks.settle_value.Goals as goal
 pub push-requires : goal.push-requires
 push-requires c =
     let outer : frames_on (take c.self.inside.bottom c.self.inside.slots.operands)
-    (newest c.self.inside) (floors c.self.inside) ≡ c.args.self.now.outer =
+    (belongings c.self.inside) (floors c.self.inside) ≡ c.args.self.now.outer =
     ap (λ (v : StacksView). v.outer) c.self.view_is ∙ ap (λ (v : StacksView). v.outer)
     c.take_value-value.ensures.rest in
     let free : c.self.inside.bottom < c.self.inside.slots.slots =

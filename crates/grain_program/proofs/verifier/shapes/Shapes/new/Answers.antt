@@ -4,6 +4,6 @@ use Rattle.grain_program.proofs.verifier.shapes.Shapes.new.Goals as goal
 
 pub returns : goal.returns
 returns c =
-    let zeros : c.in_ok-cells.cells.items ≡ replicate c.args.len (record { height = 0; list = 0 }) =
-    search rules in
+    let zeros : c.in_ok-cells.cells.items
+    ≡ replicate c.args.len (record { height = 0; cursors = 0; list = 0 }) = search rules in
     cells_new c.args.len c.in_ok-cells.cells.items zeros

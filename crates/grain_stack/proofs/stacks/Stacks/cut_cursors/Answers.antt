@@ -1,0 +1,34 @@
+-- The frame's depth is how many frames wait.
+use Rattle.std.proofs.Common.{◌≡◌, ◌≤◌, ◌∙◌, ℕ, List, length, sym, subst, ap}
+use Rattle.grain_stack.specs.declared.cursors.Cursor.{Cursor}
+use Rattle.grain_stack.specs.Entries.{entries_at}
+use Rattle.grain_stack.specs.Views.{StacksView}
+use Rattle.grain_stack.proofs.Belonging.{depth_is, ordered_here, cursors_view, cursors_sound}
+use Rattle.grain_stack.proofs.Depths.{cut_at}
+use Rattle.grain_stack.proofs.stacks.Stacks.cut_cursors.Goals as goal
+
+pub cut-requires : goal.cut-requires
+cut-requires c =
+    let own : entries_at c.len-depth.result c.self.inside.cursors ≡ c.args.self.now.cursors =
+    ap (λ (n : ℕ). entries_at n c.self.inside.cursors)
+    (depth_is c.self.inside c.len-depth.result c.len-depth.ensures.value)
+    ∙ ap (λ (v : StacksView). v.cursors) c.self.view_is in
+    record {
+      ordered =
+          (ordered_here c.self.inside c.len-depth.result c.self.invariant
+          c.len-depth.ensures.value).cursors;
+      there = subst (λ (xs : List Cursor). c.args.count ≤ length xs) (sym own) c.requires.there;
+    }
+
+pub invariant_of-self : goal.invariant_of-self
+invariant_of-self c =
+    cursors_sound c.self.inside c.cut.new.self _ c.self.invariant
+    (cut_at _ c.len-depth.result c.args.count c.self.inside.cursors c.cut.new.self
+    (depth_is c.self.inside c.len-depth.result c.len-depth.ensures.value) c.cut.ensures)
+
+pub returns : goal.returns
+returns c =
+    rw (← c.self.view_is)
+    (cursors_view c.self.inside c.cut.new.self _ c.self.invariant
+    (cut_at _ c.len-depth.result c.args.count c.self.inside.cursors c.cut.new.self
+    (depth_is c.self.inside c.len-depth.result c.len-depth.ensures.value) c.cut.ensures))

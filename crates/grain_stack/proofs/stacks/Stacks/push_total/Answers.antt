@@ -1,0 +1,19 @@
+-- One total more.
+use Rattle.grain_stack.proofs.Belonging.{depth_is, totals_view, totals_sound}
+use Rattle.grain_stack.proofs.Depths.{pushed_at}
+use Rattle.grain_stack.proofs.stacks.Stacks.push_total.Goals as goal
+
+pub invariant_of-self-2 : goal.invariant_of-self-2
+invariant_of-self-2 c =
+    totals_sound c.self.inside c.push.new.self _ c.self.invariant
+    (pushed_at _ c.len-depth.result c.self.inside.totals c.push.new.self c.args.total
+    c.self.invariant.ordered.totals
+    (depth_is c.self.inside c.len-depth.result c.len-depth.ensures.value) c.in_ok-push.ensures)
+
+pub returns : goal.returns
+returns c =
+    rw (← c.self.view_is)
+    (totals_view c.self.inside c.push.new.self _ c.self.invariant
+    (pushed_at _ c.len-depth.result c.self.inside.totals c.push.new.self c.args.total
+    c.self.invariant.ordered.totals
+    (depth_is c.self.inside c.len-depth.result c.len-depth.ensures.value) c.in_ok-push.ensures))
