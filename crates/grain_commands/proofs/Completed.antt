@@ -27,7 +27,9 @@ MeansOne =
 abbrev pub RefusedOnce : Type 0
 RefusedOnce = (p : View) (r s : Refusal) → IsRefusal p r → IsRefusal p s → r ≡ s
 
-same_set_up : (said : Result ListingView BadLine) (s t : ListingView) → said ≡ Ok s → said ≡ Ok t → t ≡ s
+-- a listing says one thing
+pub same_set_up : (said : Result ListingView BadLine) (s t : ListingView) → said ≡ Ok s →
+    said ≡ Ok t → t ≡ s
 same_set_up said s t one other = cc
 
 -- the end that is reported is the end that the program means

@@ -1,41 +1,68 @@
 -- What is said of each status gives the headline.
 use Rattle.std.proofs.Common.{◌≡◌, ◌≤◌, ◌++◌, ◌∙◌, ℕ, zero, suc, Bool, true, List, Option, Some, Ok, Err, IfSome, sym, ap, subst, refl, arith}
+use Rattle.grain_host.specs.Tables.{table_law}
 use Rattle.grain_host.specs.declared.tables.TableHost.{TableHost}
 use Rattle.grain_program.specs.Typing.{IsProgram}
+use Rattle.grain_program.specs.View.{View}
 use Rattle.grain_program.specs.declared.verifier.refusals.Refusal.{Refusal}
+use Rattle.grain_global.specs.Engines.{with_callbacks}
+use Rattle.grain_global.specs.declared.engines.Engine.{Engine}
+use Rattle.grain_means.specs.Core.{CoreMeans, IsCore}
 use Rattle.grain_means.specs.Worlds.{Answer, Came, Failed}
-use Rattle.grain_means.specs.Means.{Finish}
+use Rattle.grain_means.specs.Means.{Begin, Finish, Means}
 use Rattle.grain_listing.specs.Reading.{ListingView, reads}
 use Rattle.grain_listing.specs.declared.reasons.BadLine.{BadLine}
 use Rattle.grain_streams.specs.Streams.{added}
+use Rattle.grain_commands.proofs.Completed.{same_set_up}
 use Rattle.grain_commands.specs.Headline.{CoreListing, CoreEnds, PrintsCoreEnd}
 use Rattle.grain_commands.specs.Replies.{Counts, is_run, listing_for}
-use Rattle.grain_commands.specs.Runs.{answer_report, report, status_of, value_text}
+use Rattle.grain_commands.specs.Runs.{answer_report, engine_of, report, start, status_of, value_text}
 use Rattle.grain_commands.proofs.Commanding.{held, not_told, run_commands, to_source}
 use Rattle.grain_commands.specs.Statuses.{RunEnds, IsRefused, Says, Beside, Gives, NoneRose, Completes}
 
--- a listing says one thing
-same_set_up : (bytes : List ℕ) (s t : ListingView) → reads bytes ≡ Ok s → reads bytes ≡ Ok t → t ≡ s
-same_set_up bytes s t one other = cc
+-- an end by the rules of the core is one by all rules
+abbrev pub CoreIsMeant : Type 0
+CoreIsMeant = (program : View) (engine : Engine) (b : Begin TableHost) (e : Finish TableHost) →
+    CoreMeans table_law program engine b e →
+    (n : ℕ) × Means table_law program (with_callbacks true engine) b e n
+
+-- and of a valid program of the core each end by all rules is one by those of the core
+abbrev pub MeansCore : Type 0
+MeansCore = (program : View) (engine : Engine) (b : Begin TableHost) (e : Finish TableHost) →
+    IsProgram program → IsCore program → (n : ℕ) →
+    Means table_law program (with_callbacks true engine) b e n →
+    CoreMeans table_law program engine b e
+
+-- an end of a run on what a listing says, by all rules
+abbrev MeansSo : Finish TableHost → ListingView → Type 0
+MeansSo end s = (n : ℕ) × Means table_law s.parts
+    (engine_of s.limits s.fast_operators s.strict_properties) (start s.scope s.host) end n
 
 -- an end of the listing's run is one of the core program
-core_end : (bytes : List ℕ) (listing : CoreListing bytes) (end : Finish TableHost) →
+core_end : MeansCore → (bytes : List ℕ) (listing : CoreListing bytes) (end : Finish TableHost) →
     RunEnds bytes end → CoreEnds listing.set_up end
-core_end bytes listing end run =
-    subst (λ (s : ListingView). CoreEnds s end)
-    (same_set_up bytes listing.set_up run.set_up listing.said run.said)
-    (run.instructions, run.means)
+core_end of_core bytes listing end run =
+    let s = listing.set_up in
+    let means : MeansSo end s =
+    subst (MeansSo end) (same_set_up (reads bytes) listing.set_up run.set_up listing.said run.said)
+    (run.instructions, run.means) in
+    of_core s.parts (engine_of s.limits s.fast_operators s.strict_properties) (start s.scope s.host)
+    end listing.valid listing.core means.0 means.1
 
 -- and the other way round
-run_end : (bytes : List ℕ) (listing : CoreListing bytes) (end : Finish TableHost) →
+run_end : CoreIsMeant → (bytes : List ℕ) (listing : CoreListing bytes) (end : Finish TableHost) →
     CoreEnds listing.set_up end → RunEnds bytes end
-run_end bytes listing end ends = record {
-  set_up = listing.set_up;
-  said = listing.said;
-  valid = listing.valid;
-  instructions = ends.0;
-  means = ends.1;
-}
+run_end all bytes listing end ends =
+    let s = listing.set_up in
+    let means = all s.parts (engine_of s.limits s.fast_operators s.strict_properties)
+    (start s.scope s.host) end ends in
+    record {
+      set_up = s;
+      said = listing.said;
+      valid = listing.valid;
+      instructions = means.0;
+      means = means.1;
+    }
 
 -- what is said of the bytes, where they are known
 of_bytes : (input : Option (List ℕ)) (bytes : List ℕ) (P : List ℕ → Type 0) → input ≡ Some bytes →
@@ -48,8 +75,9 @@ report_at : (end : Finish TableHost) (a : Answer) → end.answer ≡ a →
 report_at end a is =
     ap (λ x. end.host.printed ++ answer_report end.cells x end.trace) (sym is)
 
-module _ (words : List (List ℕ)) (input before now : Option (List ℕ)) (bytes : List ℕ)
-    (command : is_run words ≡ true) (told : input ≡ Some bytes) (listing : CoreListing bytes) where
+module _ (of_core : MeansCore) (words : List (List ℕ)) (input before now : Option (List ℕ))
+    (bytes : List ℕ) (command : is_run words ≡ true) (told : input ≡ Some bytes)
+    (listing : CoreListing bytes) where
   -- a status and a text tell an end of the core program
   abbrev Told : ℕ → List ℕ → Type 0
   Told status text = (end : Finish TableHost) × CoreEnds listing.set_up end ×
@@ -64,7 +92,7 @@ module _ (words : List (List ℕ)) (input before now : Option (List ℕ)) (bytes
       text ≡ end.host.printed ++ answer_report end.cells a end.trace → Told status text
   told_at status text a end is number run written = (
     end,
-    core_end bytes listing end (of_bytes input bytes (λ b. RunEnds b end) told run),
+    core_end of_core bytes listing end (of_bytes input bytes (λ b. RunEnds b end) told run),
     number ∙ ap status_of (sym is),
     written ∙ report_at end a is,
   )
@@ -78,7 +106,8 @@ module _ (words : List (List ℕ)) (input before now : Option (List ℕ)) (bytes
   no_refusal r h =
       let refused = of_bytes input bytes (λ b. IsRefused b r) told h in
       refused.invalid (subst (λ (s : ListingView). IsProgram s.parts)
-      (sym (same_set_up bytes listing.set_up refused.set_up listing.said refused.said)) listing.valid)
+      (sym (same_set_up (reads bytes) listing.set_up refused.set_up listing.said refused.said))
+      listing.valid)
 
   tells : (status : ℕ) (text : List ℕ) → status ≤ 4 → Says words input status text →
       Told status text
@@ -129,18 +158,18 @@ given_at end a before now status is gives =
     Gives (status_of x) (end.host.printed ++ answer_report end.cells x end.trace) before now status)
     (sym is) gives
 
-pub prints_core_end : (words : List (List ℕ)) (input before now : Option (List ℕ)) (counts : Counts)
-    (status : ℕ) → Beside words input before now counts status →
+pub prints_core_end : CoreIsMeant → MeansCore → (words : List (List ℕ))
+    (input before now : Option (List ℕ)) (counts : Counts) (status : ℕ) → Beside words input before now counts status →
     Completes words input before now counts status →
     PrintsCoreEnd words input before now counts status
-prints_core_end words input before now counts status beside completes = record {
+prints_core_end all of_core words input before now counts status beside completes = record {
   prints = λ command bytes told listing read write memory.
       let small = at_most_four status beside.known read write memory in
       let whole = beside.whole small in
-      printed words input before now bytes command told listing status whole.0
-      (tells words input before now bytes command told listing status whole.0 small whole.1) whole.2;
+      printed of_core words input before now bytes command told listing status whole.0
+      (tells of_core words input before now bytes command told listing status whole.0 small whole.1) whole.2;
   complete = λ command none bytes told listing end ends. by_answer command none bytes told end
-      (run_end bytes listing end ends) end.answer refl;
+      (run_end all bytes listing end ends) end.answer refl;
 } where
   by_answer : is_run words ≡ true → NoneRose counts → (bytes : List ℕ) → input ≡ Some bytes →
       (end : Finish TableHost) → RunEnds bytes end → (a : Answer) → end.answer ≡ a →

@@ -6,7 +6,7 @@ ghost use Rattle.grain_commands.specs.Replies.{Counts, Ended};
 ghost use Rattle.grain_commands.specs.Statuses.{Beside, Completes};
 
 use grain_host::TableHost;
-use grain_means::one_meaning;
+use grain_means::{core_agrees, one_meaning};
 use grain_program::one_refusal;
 
 /// How a call ended settles what its status says and what stands beside it, which status was due, and
@@ -23,5 +23,6 @@ pub fn statuses_are_due()
         PrintsCoreEnd words input before now counts status }
 {
     one_meaning::<TableHost>();
+    core_agrees::<TableHost>();
     one_refusal();
 }

@@ -1,5 +1,5 @@
 -- The next item of a loop: there is one or none, its count fits, and it is stored.
-use Rattle.std.proofs.Common.{◌≡◌, ◌∙◌, ◌<◌, ◌≤◌, ◌+◌, ◌-◌, ℕ, ℤ, pos, ◌+ℤ◌, List, [], ◌∷◌, Option, Some, None, Bool, true, false, is_none, Result, Ok, Err, length, refl, sym, subst, ap, arith}
+use Rattle.std.proofs.Common.{◌≡◌, ◌∙◌, ◌<◌, ◌≤◌, ◌+◌, ℕ, ℤ, pos, ◌+ℤ◌, List, [], ◌∷◌, Option, Some, None, Bool, true, false, Result, Ok, Err, length, refl, sym, subst, ap, arith}
 use Rattle.grain_value.specs.Tree.{Tree}
 use Rattle.grain_value.specs.declared.memory.OutOfMemory.{OutOfMemory}
 use Rattle.grain_fault.specs.Problems.{Arithmetic, Plain}
@@ -18,7 +18,7 @@ use Rattle.grain_stack.specs.declared.cursors.Cursor.{Cursor}
 use Rattle.grain_means.specs.Worlds.{Place, World, Act, Setup}
 use Rattle.grain_means.specs.Rules.{count_stored, counter_text, innermost_cursor, item_given, iter_next, loop_advanced, loop_left, offered, raised}
 use Rattle.grain_means.specs.Means.{setup}
-use Rattle.grain_means.specs.Simulation.{Computation, Environment, SimulatesExactly, stopped, world}
+use Rattle.grain_means.specs.Simulation.{Computation, SimulatesExactly, stopped, world}
 use Rattle.grain_frame.specs.Abstraction.{abstraction, charge_continuation, cursors_in, frame_in, is_out, moment}
 use Rattle.grain_frame.specs.Looping.{CountResult, ImplementsLoop, arrivals_of, first_items}
 use Rattle.grain_frame.specs.declared.activations.Activation.{Activation}

@@ -1,5 +1,5 @@
 -- What the next item of a loop does: it is counted, the count is stored, and the item is given.
-use Rattle.std.proofs.Common.{◌≡◌, ◌∙◌, ◌<◌, ◌≤◌, ◌+◌, ◌-◌, ◌++◌, ℕ, ℤ, List, [], ◌∷◌, Option, Some, None, Bool, true, false, is_some, is_none, Result, Ok, Err, length, slice_get, inl, inr, refl, sym, subst, ap, arith}
+use Rattle.std.proofs.Common.{◌≡◌, ◌∙◌, ◌<◌, ◌≤◌, ◌+◌, ◌-◌, ◌++◌, ℕ, ℤ, List, [], ◌∷◌, Option, Some, None, true, false, is_some, is_none, Result, Ok, Err, length, slice_get, inl, inr, refl, sym, subst, ap, arith}
 use Rattle.std.proofs.lemmas.List.{length-append}
 use Rattle.grain_value.specs.Cells.{content, flat}
 use Rattle.grain_value.specs.Looking.{cell_of}
@@ -10,11 +10,10 @@ use Rattle.grain_value.specs.laws.Same.{tree-value_of, value_of-tree}
 use Rattle.grain_value.specs.declared.memory.OutOfMemory.{OutOfMemory}
 use Rattle.grain_value.specs.declared.stores.Cell.{Cell}
 use Rattle.grain_value.specs.declared.values.Dynamic.{Dynamic}
-use Rattle.grain_value.specs.declared.values.Held.{Held}
-use Rattle.grain_fault.specs.Problems.{NoMemory, Problem, problem_of}
+use Rattle.grain_fault.specs.Problems.{NoMemory}
 use Rattle.grain_program.specs.declared.code.instruction_set.Op.TheVariants as op
 use Rattle.grain_program.specs.Effects.{effect_of}
-use Rattle.grain_program.specs.Shapes.{Arrival, TryHandler, after, arrival, at_target, shape}
+use Rattle.grain_program.specs.Shapes.{Arrival, after, arrival, at_target, shape}
 use Rattle.grain_program.specs.Typing.{In}
 use Rattle.grain_program.specs.View.{View}
 use Rattle.grain_program.specs.laws.Leads.{in_branch, past_branch}
@@ -25,19 +24,17 @@ use Rattle.grain_stack.specs.Cursors.{Gives, first_cell, items_left}
 use Rattle.grain_stack.specs.Entries.{first_of, with_first}
 use Rattle.grain_stack.specs.Views.{StacksView}
 use Rattle.grain_stack.specs.declared.cursors.Cursor.{Cursor}
-use Rattle.grain_means.specs.Worlds.{Go, InFrame, Place, World, Act, Setup, is_stop}
+use Rattle.grain_means.specs.Worlds.{Go, InFrame, Place, is_stop}
 use Rattle.grain_means.specs.Worlds as worlds
-use Rattle.grain_means.specs.Rules.{item_given, leave_by_fault, offered, outer_cursors, raised}
+use Rattle.grain_means.specs.Rules.{item_given, leave_by_fault, outer_cursors}
 use Rattle.grain_means.specs.Means.{setup}
-use Rattle.grain_means.specs.Simulation.{Computation, Environment, SimulatesExactly, stopped, world}
-use Rattle.grain_means.specs.lemmas.Stretches.{exactly, then_exactly}
-use Rattle.grain_frame.specs.Abstraction.{CanBegin, KeepsFrame, Raises, abstraction, cursors_in, frame_in, is_out, marked_once, moment, moved, shape_in, tries_in}
-use Rattle.grain_frame.specs.Looping.{ArrivesAt, Gave, ImplementsLoop, TakesItem, arrivals_of, first_items, is_lent, next_is_lent, outer_of}
+use Rattle.grain_means.specs.Simulation.{Environment, stopped, world}
+use Rattle.grain_frame.specs.Abstraction.{CanBegin, abstraction, cursors_in, frame_in, is_out, marked_once, moment, moved, shape_in, tries_in}
+use Rattle.grain_frame.specs.Looping.{Gave, ImplementsLoop, TakesItem, arrivals_of, first_items, is_lent, next_is_lent, outer_of}
 use Rattle.grain_frame.specs.declared.activations.Activation.{Activation}
 use Rattle.grain_frame.specs.declared.runs.Progress.{Progress}
 use Rattle.grain_frame.specs.declared.runs.Progress.TheVariants as progress
 use Rattle.grain_frame.specs.declared.runs.Run.{Run}
-use Rattle.grain_frame.specs.lemmas.Arms.{raises_exactly}
 use Rattle.grain_frame.proofs.Looping.{loop_kept, same_arrival}
 
 -- an item that is no cell which is lent can be read

@@ -1,5 +1,5 @@
 -- What the instructions on cursors do: a loop begins and is left.
-use Rattle.std.proofs.Common.{◌≡◌, ◌∙◌, ◌<◌, ◌≤◌, ◌+◌, ◌-◌, ℕ, ℤ, negsuc, List, [], ◌∷◌, Option, Some, None, Bool, true, false, is_some, Result, Ok, Err, length, inl, inr, refl, sym, subst, ap, arith}
+use Rattle.std.proofs.Common.{◌≡◌, ◌∙◌, ◌<◌, ◌≤◌, ◌+◌, ◌-◌, ℕ, negsuc, List, [], ◌∷◌, Option, Some, None, true, false, is_some, Result, Ok, Err, length, inl, inr, refl, sym, subst, ap, arith}
 use Rattle.std.proofs.lemmas.List.{length-take-le}
 use Rattle.grain_value.specs.Cells.{flat}
 use Rattle.grain_value.specs.Items.{items_of}
@@ -10,7 +10,7 @@ use Rattle.grain_value.specs.declared.values.Dynamic.{Dynamic}
 use Rattle.grain_value.specs.declared.values.Held.{Held}
 use Rattle.grain_fault.specs.Problems.{NoMemory}
 use Rattle.grain_program.specs.declared.code.instruction_set.Op.TheVariants as op
-use Rattle.grain_program.specs.Shapes.{Arrival, TryHandler, arrival, shape}
+use Rattle.grain_program.specs.Shapes.{TryHandler, arrival, shape}
 use Rattle.grain_program.specs.View.{View}
 use Rattle.grain_host.specs.Law.{Law}
 use Rattle.grain_global.specs.declared.engines.Engine.{Engine}
@@ -21,7 +21,7 @@ use Rattle.grain_stack.specs.declared.cursors.Cursor.{Cursor}
 use Rattle.grain_means.specs.Worlds.{Place, is_stop}
 use Rattle.grain_means.specs.Rules.{instr, leave_by_fault, onward, stepped, without_cursor}
 use Rattle.grain_means.specs.Means.{setup}
-use Rattle.grain_means.specs.Simulation.{Computation, Environment, SimulatesExactly, stopped, world}
+use Rattle.grain_means.specs.Simulation.{Environment, SimulatesExactly, stopped, world}
 use Rattle.grain_frame.specs.Abstraction.{CanBegin, KeepsFrame, abstraction, continuation, frame_in, is_out, marked_once, moment, moved, tries_in}
 use Rattle.grain_frame.specs.Looping.{ImplementsLoop, PerformsLoop}
 use Rattle.grain_frame.specs.declared.activations.Activation.{Activation}
@@ -186,6 +186,16 @@ module _ {H : Type 0} (law : Law H) (p : View) (engine : Engine) (f : Activation
           (world (abstraction s n host) u)
       stops None items none stop u place halts = absurd cc
       stops (Some ts) items some stop u place halts = rw (read, items, halts) refl
+
+-- a value that was read twice has items both times
+pub some_items : (a b : Dynamic) (o : Option Dynamic) → o ≡ Some a → o ≡ Some b →
+    is_some (items_of a) ≡ true → ¬ (items_of b ≡ None)
+some_items a b o first second some none =
+    let both : Some a ≡ Some b = sym first ∙ second in
+    let same : a ≡ b = cc in
+    let never : true ≡ false =
+    sym some ∙ ap (λ (d : Dynamic). is_some (items_of d)) same ∙ ap is_some none in
+    cc
 
 -- there are none
 pub no_items : (o : Option (List Tree)) → is_some o ≡ false → o ≡ None

@@ -1,5 +1,5 @@
 -- What follows once the count of a loop was stored, and the instruction of which that is a part.
-use Rattle.std.proofs.Common.{◌≡◌, ◌∙◌, ◌≤◌, ◌+◌, ℕ, List, Option, Bool, false, Result, Ok, Err, inl, inr, length, refl, ap, arith}
+use Rattle.std.proofs.Common.{◌≡◌, ◌∙◌, ◌≤◌, ℕ, List, Option, false, Result, Ok, Err, inl, inr, length, refl, ap, arith}
 use Rattle.grain_value.specs.declared.scopes.Entry.{Entry}
 use Rattle.grain_value.specs.declared.stores.Cell.{Cell}
 use Rattle.grain_value.specs.declared.memory.OutOfMemory.{OutOfMemory}

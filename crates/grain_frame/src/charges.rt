@@ -41,8 +41,7 @@ impl<H: Host> Run<H> {
         ensures before { steps.new.before ≡ steps.old.before }
     {
         if !self.take_operation(context.engine) {
-            let fault = EvalAltResult::ErrorTooManyOperations(Position::NONE);
-            self.raise_at(context, steps, address, fault);
+            self.too_many_operations(context, steps, address);
             return Ok(false);
         }
         steps.mark();
@@ -55,8 +54,7 @@ impl<H: Host> Run<H> {
             ProgressAnswer::Stop(token) => {
                 steps.mark();
                 steps.mark();
-                let fault = EvalAltResult::ErrorTerminated(token, Position::NONE);
-                self.raise_at(context, steps, address, fault);
+                self.terminated(context, steps, address, token);
                 Ok(false)
             }
             ProgressAnswer::Memory => Err(OutOfMemory),

@@ -301,8 +301,7 @@ impl<H: Host> Run<H> {
             return self.data_race(context, steps, frame.address, "");
         }
         if self.scope.len() >= context.engine.limits.variables {
-            let fault = EvalAltResult::ErrorTooManyVariables(Position::NONE);
-            return Ok(self.raise_at(context, steps, frame.address, fault));
+            return Ok(self.too_many_variables(context, steps, frame.address));
         }
         let name = context.program.names().at(usize::from(name));
         let value = self.take_flat()?;

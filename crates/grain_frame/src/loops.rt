@@ -1,18 +1,16 @@
 //! Loops over the items of a value, and transfers by a table of cases.
 
-ghost use Rattle.std.specs.Prelude.{◌≡◌, ◌<◌, ◌≤◌, ◌+◌, ◌-◌, ◌++◌, ◌∷◌, [], ℕ, ℤ, pos, negsuc, ◌+ℤ◌, List, length, Option, Some, None, Ok, IfOk, OnErr, MatchOption, is_ok, is_some, is_none, true, false, if◌then◌else◌};
-ghost use Rattle.grain_value.specs.Cells.{content, flat};
+ghost use Rattle.std.specs.Prelude.{◌≡◌, ◌<◌, ◌≤◌, ◌+◌, ◌-◌, ◌∷◌, [], ℕ, ℤ, pos, ◌+ℤ◌, List, length, Option, Some, None, Ok, IfOk, MatchOption, is_some, is_none, true, false, if◌then◌else◌};
+ghost use Rattle.grain_value.specs.Cells.{flat};
 ghost use Rattle.grain_value.specs.Items.{items_of};
 ghost use Rattle.grain_value.specs.Operands.{read_write};
 ghost use Rattle.grain_value.specs.Tree.{Tree};
-ghost use Rattle.grain_value.specs.View.{tree, value_of};
-ghost use Rattle.grain_fault.specs.Problems.{Problem, Plain, Arithmetic};
+ghost use Rattle.grain_fault.specs.Problems.{Plain, Arithmetic};
 ghost use Rattle.grain_ops.specs.Calculations.{fits64};
 ghost use Rattle.grain_program.specs.Indices.{InPools};
 ghost use Rattle.grain_program.specs.Shapes.{arrival, shape};
 ghost use Rattle.grain_program.specs.View.{View, position_of};
 ghost use Rattle.grain_global.specs.declared.engines.Engine.{Engine};
-ghost use Rattle.grain_stack.specs.Cursors.{items_left};
 ghost use Rattle.grain_stack.specs.Entries.{first_of};
 ghost use Rattle.grain_means.specs.Worlds.{Setup, Place, World, Act};
 ghost use Rattle.grain_means.specs.Rules.{iter_next, loop_left, count_stored, item_given, counter_text, offered};
@@ -20,7 +18,6 @@ ghost use Rattle.grain_means.specs.Means.{setup};
 ghost use Rattle.grain_means.specs.Simulation.{SimulatesExactly};
 ghost use Rattle.grain_frame.specs.Abstraction.{abstraction, is_out, charge_continuation, frame_in, tries_in, CanBegin, Performs, Raises, Ready, setup_of, moment};
 ghost use Rattle.grain_frame.specs.Looping.{ImplementsLoop, PerformsLoop, arrivals_of, CountResult, TakesItem, first_items, next_is_lent};
-ghost use Rattle.grain_value.specs.declared.values.Dynamic.TheVariants as dynamic;
 ghost use Rattle.grain_program.specs.declared.code.instruction_set.Op.TheVariants as op;
 
 use crate::activations::Activation;
@@ -55,7 +52,8 @@ impl<H: Host> Run<H> {
             let fault = EvalAltResult::ErrorFor(Position::NONE);
             return Ok(self.raise_at(context, steps, frame.address, fault));
         }
-        let Ok(cursor) = Cursor::over(self.take_flat()?) else {
+        let operand = self.take_flat()?;
+        let Ok(cursor) = Cursor::over(operand) else {
             unreachable!();
         };
         self.stacks.push_cursor(cursor)?;

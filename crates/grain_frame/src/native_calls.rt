@@ -155,6 +155,7 @@ pub fn seek<H: Host>(
 
 /// What came of the host's answer, with a mark before the call and one after. A fault without a
 /// position has this one.
+#[inline(always)]
 pub fn served<L: Ledger>(
     steps: &mut Steps<L>,
     answer: HostAnswer,

@@ -5,7 +5,7 @@ ghost use Rattle.std.specs.Prelude.{◌≡◌, ◌<◌, ◌++◌, length, Ok, If
 ghost use Rattle.grain_program.specs.View.{position_of, name_of};
 ghost use Rattle.grain_means.specs.Rules.{race_text, name_at};
 ghost use Rattle.grain_fault.specs.Positions.{at_position};
-ghost use Rattle.grain_fault.specs.Problems.{Problem, Plain, AssignmentToConstant, DataRace, DataTooLarge, Malformed, MismatchDataType, problem_of};
+ghost use Rattle.grain_fault.specs.Problems.{Problem, Plain, AssignmentToConstant, DataRace, DataTooLarge, Malformed, MismatchDataType, StackOverflow, Terminated, TooManyOperations, TooManyVariables, problem_of};
 ghost use Rattle.grain_ops.specs.Outcomes.{Outcome};
 ghost use Rattle.grain_ops.specs.Answers.{FailsSo};
 ghost use Rattle.grain_frame.specs.Abstraction.{Raises};
@@ -18,7 +18,7 @@ use crate::runs::{Progress, Run};
 use grain_fault::{EvalAltResult, MalformedKind, Position};
 use grain_global::Steps;
 use grain_host::Host;
-use grain_value::{OutOfMemory, Text};
+use grain_value::{Dynamic, OutOfMemory, Text};
 use std::alloc::Global;
 use std::sync::ledger::Ledger;
 
@@ -40,6 +40,75 @@ impl<H: Host> Run<H> {
         let mut fault = fault;
         fault.set_position(context.program.position(address));
         self.raise(steps, fault)
+    }
+
+    /// Raises the fault that no operation is left.
+    #[cold]
+    #[inline(never)]
+    pub fn too_many_operations<L: Ledger>(
+        &mut self,
+        context: Context<'_>,
+        steps: &mut Steps<L>,
+        address: usize,
+    ) -> Progress
+        ensures { Raises self.old steps.old
+            (Plain TooManyOperations (position_of context.entry.program.now address)) (Ok result) self.new
+            steps.new }
+    {
+        let fault = EvalAltResult::ErrorTooManyOperations(Position::NONE);
+        self.raise_at(context, steps, address, fault)
+    }
+
+    /// Raises the fault that the host stopped the run, with this value.
+    #[cold]
+    #[inline(never)]
+    pub fn terminated<L: Ledger>(
+        &mut self,
+        context: Context<'_>,
+        steps: &mut Steps<L>,
+        address: usize,
+        token: Dynamic,
+    ) -> Progress
+        ensures { Raises self.old steps.old
+            (Plain (Terminated token) (position_of context.entry.program.now address)) (Ok result) self.new
+            steps.new }
+    {
+        let fault = EvalAltResult::ErrorTerminated(token, Position::NONE);
+        self.raise_at(context, steps, address, fault)
+    }
+
+    /// Raises the fault that a call would be above the highest level.
+    #[cold]
+    #[inline(never)]
+    pub fn stack_overflow<L: Ledger>(
+        &mut self,
+        context: Context<'_>,
+        steps: &mut Steps<L>,
+        address: usize,
+    ) -> Progress
+        ensures { Raises self.old steps.old
+            (Plain StackOverflow (position_of context.entry.program.now address)) (Ok result) self.new
+            steps.new }
+    {
+        let fault = EvalAltResult::ErrorStackOverflow(Position::NONE);
+        self.raise_at(context, steps, address, fault)
+    }
+
+    /// Raises the fault that a scope would have too many variables.
+    #[cold]
+    #[inline(never)]
+    pub fn too_many_variables<L: Ledger>(
+        &mut self,
+        context: Context<'_>,
+        steps: &mut Steps<L>,
+        address: usize,
+    ) -> Progress
+        ensures { Raises self.old steps.old
+            (Plain TooManyVariables (position_of context.entry.program.now address)) (Ok result) self.new
+            steps.new }
+    {
+        let fault = EvalAltResult::ErrorTooManyVariables(Position::NONE);
+        self.raise_at(context, steps, address, fault)
     }
 
     /// Raises the fault of a slot past the scope, at this index of the scope.

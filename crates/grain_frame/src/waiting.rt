@@ -113,6 +113,7 @@ impl<H: Host> Run<H> {
     /// Tells the host, by this token, what came of the call that it asked for, and lends it again what
     /// it was lent. A fault of the host's without a position has this one. If memory runs out, the host
     /// forgets the token.
+    #[inline(always)]
     pub fn resume_native<L: Ledger>(
         &mut self,
         host: &mut H,
@@ -157,6 +158,7 @@ impl<H: Host> Run<H> {
     }
 
     // Resumes the host, and lends it what it was lent.
+    #[inline(always)]
     fn resume_with(
         &mut self,
         host: &mut H,
@@ -191,6 +193,7 @@ impl<H: Host> Run<H> {
     }
 
     // Puts back what a native was lent that is over. What stands nowhere in the run is given.
+    #[inline(always)]
     fn give_back(&mut self, lent: Loan) -> Option<Held>
         ensures run { self.new ≡ given_back_run lent self.old }
         ensures apart { result ≡ apart_of lent }
@@ -208,6 +211,7 @@ impl<H: Host> Run<H> {
 }
 
 // Resumes the host with a receiver, if there is one, and gives the receiver as the host left it.
+#[inline(always)]
 fn resume<H: Host>(
     alloc: Global,
     host: &mut H,

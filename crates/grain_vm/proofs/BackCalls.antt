@@ -24,51 +24,15 @@ use Rattle.grain_means.specs.Simulation.{puts, stopped, world}
 use Rattle.grain_means.specs.lemmas.Roots.{puts-bound}
 use Rattle.grain_means.specs.lemmas.Stretches.{same}
 use Rattle.grain_chain.specs.declared.requests.Request.{Request}
-use Rattle.grain_chain.specs.declared.requests.What.TheVariants as what
 use Rattle.grain_frame.specs.Waiting.{beside}
 use Rattle.grain_frame.specs.declared.runs.Run.{Run}
 use Rattle.grain_vm.specs.Asks.{CallsBack, IsCallback}
 use Rattle.grain_vm.specs.Backs.{FindsBack, IsRequestBack, NativeCallsBack}
 use Rattle.grain_vm.specs.Driving.{name_in}
-use Rattle.grain_vm.specs.Methods.{CallsMethod, NeedsSo, given_to}
+use Rattle.grain_vm.specs.Methods.{CallsMethod, given_to}
 use Rattle.grain_vm.specs.declared.methods.MethodCall.{MethodCall}
-use Rattle.grain_vm.specs.declared.methods.Needed.{Needed}
 use Rattle.grain_vm.specs.declared.methods.Needed.TheVariants as needed
 use Rattle.grain_vm.proofs.Followed.{alike}
-
--- ---- what is called
-
--- the request for a pointer on these values
-abbrev pub pointer_request : Position → FnPtr → List Tree → Request
-pointer_request q f ts = record {
-  step = 0;
-  pos = q;
-  what = what.Pointer f;
-  receiver = None;
-  arguments = ts;
-}
-
--- natives may call functions
-pub finds_needed : (p : View) (engine : Engine) (q : Position) (f : FnPtr) (ts : List Tree)
-    (n : Needed) → engine.callbacks ≡ true → NeedsSo p (pointer_request q f ts) (Ok n) →
-    FindsBack p engine q f ts (Ok n)
-finds_needed p engine q f ts (needed.Function c) may needs =
-    (needs.there, may, needs.asks.0, needs.position, needs.receiver, needs.asks.1)
-finds_needed p engine q f ts (needed.Native r) may needs =
-    rw needs.1 ((λ _. needs.0), tt, refl, refl, refl, refl)
-
--- they may not
-pub finds_native : (p : View) (engine : Engine) (q : Position) (f : FnPtr) (ts all : List Tree) →
-    engine.callbacks ≡ false → all ≡ f.curry ++ ts → FindsBack p engine q f ts
-    (Ok (needed.Native (record {
-      step = 0;
-      pos = q;
-      what = what.Native f.name;
-      receiver = None;
-      arguments = all;
-    })))
-finds_native p engine q f ts all may is =
-    ((λ yes. let no : true ≡ false = sym yes ∙ may in absurd cc), tt, refl, refl, refl, is)
 
 -- ---- the arguments
 

@@ -111,6 +111,8 @@ module _ {H : Type 0} (law : Law H) (p : View) (engine : Engine) (f : Activation
       bound = starts.bound;
       long = starts.long;
       operands = ap (λ (q : Run H). q.stacks.operands) starts.others;
+      cursors = ap (λ (q : Run H). q.stacks.cursors) starts.others;
+      totals = ap (λ (q : Run H). q.stacks.totals) starts.others;
       handlers = ap (λ (q : Run H). q.stacks.handlers) starts.others;
       room = ap (λ (q : Run H). q.stacks.room) starts.others;
       noted = ap (λ (q : Run H). q.stacks.noted) starts.others;

@@ -114,6 +114,7 @@ module _ {H : Type 0} (law : Law H) (p : View) (engine : Engine) (f : Activation
       omega (arith, is, two, length_answered two),
       refl,
       inr (omega arith, ready.ahead),
+      refl,
     );
     before = refl;
   }
@@ -152,7 +153,7 @@ module _ {H : Type 0} (law : Law H) (p : View) (engine : Engine) (f : Activation
             ) refl;
       };
       kept = written_kept next inside s.count (omega arith);
-      lands = (to_next target next next (inl refl), height, refl, inr (omega arith, ahead));
+      lands = (to_next target next next (inl refl), height, refl, inr (omega arith, ahead), refl);
       before = refl;
     }
 
@@ -175,6 +176,6 @@ module _ {H : Type 0} (law : Law H) (p : View) (engine : Engine) (f : Activation
                 ) refl;
           };
           kept = written_kept target inside s.count (omega arith);
-          lands = (to_target target next target (inl refl), height, refl, inr (omega arith, ahead));
+          lands = (to_target target next target (inl refl), height, refl, inr (omega arith, ahead), refl);
           before = refl;
         }

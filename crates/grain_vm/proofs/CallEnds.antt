@@ -85,7 +85,7 @@ module _ {H : Type 0} (m : Setup H) (f f' : Activation) (s s' : Run H) (n n' : S
               (same here.same) tt;
           kept = kept_over f f' s t s' refl refl refl refl (refl, refl) here.kept;
           lands = lands_whole m.engine s t s' f f f' (next ∷ []) 0 r (omega arith) refl (omega arith)
-              refl here.lands;
+              refl refl here.lands;
           before = here.before;
         }
 
@@ -125,7 +125,7 @@ module _ {H : Type 0} (m : Setup H) (f f' : Activation) (s s' : Run H) (n n' : S
             kept = kept_over f f' s t s' refl refl refl refl (newest_kept s.level s.receivers k there)
                 here.kept;
             lands = lands_whole m.engine s t s' f f f' (next ∷ []) 0 r (omega arith) refl (omega arith)
-                refl here.lands;
+                refl refl here.lands;
             before = here.before;
           }
 

@@ -105,6 +105,8 @@ module _ {H : Type 0} (m : Setup H) (r : Request) (s : Run H) (n : StepsView) (h
         noted = of (λ q. q.stacks.noted) ∙ (over.noted ∙ first (λ q. q.stacks.noted));
         outer = of (λ q. q.stacks.outer) ∙ (over.outer ∙ first (λ q. q.stacks.outer));
         operands = of (λ q. q.stacks.operands) ∙ (over.operands ∙ first (λ q. q.stacks.operands));
+        cursors = of (λ q. q.stacks.cursors) ∙ (over.cursors ∙ first (λ q. q.stacks.cursors));
+        totals = of (λ q. q.stacks.totals) ∙ (over.totals ∙ first (λ q. q.stacks.totals));
         handlers = of (λ q. q.stacks.handlers) ∙ (over.handlers ∙ first (λ q. q.stacks.handlers));
         later = omega (arith, more);
       },

@@ -121,7 +121,7 @@ refused_here f s s1 kept h = record {
   this = h.this;
   order = h.order;
   equal = λ stop clear halts u place. h.equal stop clear halts u place
-      ∙ rw (kept.operands, kept.handlers) refl;
+      ∙ rw (kept.operands, kept.cursors, kept.totals, kept.handlers) refl;
 }
 
 -- want of memory in a body leaves the caller too, whatever its handlers are
@@ -192,6 +192,8 @@ module _ {H : Type 0} (engine : Engine) (f f' : Activation) (s s1 s2 s' : Run H)
         operands = under (length g.params) s.stacks.operands;
         room = s.stacks.room;
         noted = s.stacks.noted;
+        cursors = s.stacks.cursors;
+        totals = s.stacks.totals;
         handlers = s.stacks.handlers;
         outer = s.stacks.outer;
       }
@@ -202,6 +204,12 @@ module _ {H : Type 0} (engine : Engine) (f f' : Activation) (s s1 s2 s' : Run H)
 
   handlers_back : (caller_of s2).stacks.handlers ≡ s.stacks.handlers
   handlers_back = ap (λ (v : StacksView). v.handlers) stacks_back
+
+  cursors_back : (caller_of s2).stacks.cursors ≡ s.stacks.cursors
+  cursors_back = ap (λ (v : StacksView). v.cursors) stacks_back
+
+  totals_back : (caller_of s2).stacks.totals ≡ s.stacks.totals
+  totals_back = ap (λ (v : StacksView). v.totals) stacks_back
 
   -- what the code has once the caller's scope and level are back, with its `this`
   pub there_is : s2.receivers ≡ s.receivers → (n : StepsView) (host : H) →
@@ -217,4 +225,4 @@ module _ {H : Type 0} (engine : Engine) (f f' : Activation) (s s1 s2 s' : Run H)
   -- the caller's frame is without the arguments
   pub outer_is : length g.params ≡ k → (place : Option Place) → frame_in f (caller_of s2) place ≡
       without k (frame_in f s place)
-  outer_is all place = rw (operands_back, handlers_back, all) refl
+  outer_is all place = rw (operands_back, cursors_back, totals_back, handlers_back, all) refl

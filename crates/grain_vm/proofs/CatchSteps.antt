@@ -1,5 +1,6 @@
 -- A handler catches: the cuts, the variable, and the charge at its target.
-use Rattle.std.proofs.Common.{◌≡◌, ◌∙◌, ◌+◌, ℕ, List, [], ◌∷◌, ◌++◌, Option, Some, Bool, true, false, Result, Ok, Err, length, take, nat_lt, nat_le, if◌then◌else◌, zero, suc, refl, ap, subst, arith}
+use Rattle.std.proofs.Common.{◌≡◌, ◌∙◌, ◌+◌, ◌-◌, ℕ, List, [], ◌∷◌, ◌++◌, Option, Some, Bool, true, false, Result, Ok, Err, length, map, take, drop, nat_lt, nat_le, if◌then◌else◌, zero, suc, refl, sym, ap, subst, arith}
+use Rattle.std.proofs.lemmas.List.{drop-map, length-map}
 use Rattle.std.specs.Prelude.{slice_get, slice_index_or}
 use Rattle.grain_value.specs.declared.values.Dynamic.{Dynamic}
 use Rattle.grain_value.specs.declared.scopes.Entry.{Entry}
@@ -14,17 +15,23 @@ use Rattle.grain_stack.specs.declared.handlers.Handler.{Handler}
 use Rattle.grain_host.specs.Law.{Law}
 use Rattle.grain_global.specs.declared.engines.Engine.{Engine}
 use Rattle.grain_means.specs.Worlds.{Act, Frame, Place, Setup, World, Go, InFrame}
-use Rattle.grain_means.specs.Rules.{bind_caught, catching, resumed, caught, charged_or, is_stop, leave_by_fault, marked, progressed}
+use Rattle.grain_means.specs.Rules.{bind_caught, catching, resumed, caught, charged_or, is_stop, leave_by_fault, marked, outermost, progressed}
 use Rattle.grain_fault.specs.CatchValues.{caught_value}
 use Rattle.grain_means.specs.Simulation.{Computation, SimulatesExactly, stopped, world}
 use Rattle.grain_means.specs.Means.{setup}
 use Rattle.grain_means.specs.lemmas.Stretches.{then_exactly}
 use Rattle.grain_global.specs.StepsView.{StepsView}
-use Rattle.grain_frame.specs.Abstraction.{abstraction, frame_in, handler_in, is_out, charge_continuation}
+use Rattle.grain_frame.specs.Abstraction.{abstraction, cursor_in, cursors_in, frame_in, handler_in, handlers_in, is_out, charge_continuation, total_in, totals_in}
 use Rattle.grain_vm.specs.Catching.{catch_continuation}
 use Rattle.grain_frame.specs.declared.activations.Activation.{Activation}
 use Rattle.grain_frame.specs.declared.runs.Run.{Run}
 use Rattle.grain_frame.specs.lemmas.Charging.{SimulatesCharge}
+
+-- what is outermost of a list, one by one
+map_outermost : {A B : Type 0} (f : A → B) (n : ℕ) (xs : List A) →
+    map f (outermost n xs) ≡ outermost n (map f xs)
+map_outermost f n xs =
+    rw (length-map xs f) (sym (drop-map f (length xs - n) xs))
 
 -- a name of the pool
 named : (names : List (List ℕ)) (n : ℕ) (x : List ℕ) → slice_get names n ≡ Some x →
@@ -80,7 +87,12 @@ binds {H = H} law p engine s s' n n' host f go fails variable name target v some
 module _ {H : Type 0} (law : Law H) (p : View) (engine : Engine) (a : Activation) (s s1 : Run H)
     (n : StepsView) (host : H) (h : Handler) (long : nat_lt (length s.scope) h.scope ≡ false)
     (cut : s1 ≡ record s {
-      stacks = record s.stacks { operands = take h.operands s.stacks.operands; trace = [] };
+      stacks = record s.stacks {
+        operands = take h.operands s.stacks.operands;
+        cursors = outermost h.cursors s.stacks.cursors;
+        totals = outermost h.totals s.stacks.totals;
+        trace = [];
+      };
       scope = take h.scope s.scope;
     }) where
   abbrev pub what : Problem
@@ -115,7 +127,12 @@ module _ {H : Type 0} (law : Law H) (p : View) (engine : Engine) (a : Activation
       what w (charge m place))
   cuts = at s1 cut where
     at : (q : Run H) → q ≡ record s {
-      stacks = record s.stacks { operands = take h.operands s.stacks.operands; trace = [] };
+      stacks = record s.stacks {
+        operands = take h.operands s.stacks.operands;
+        cursors = outermost h.cursors s.stacks.cursors;
+        totals = outermost h.totals s.stacks.totals;
+        trace = [];
+      };
       scope = take h.scope s.scope;
     } → Catches false q n host
         (λ m place w. bind_caught m h.variable (position_of m.program h.target)
@@ -212,14 +229,33 @@ module _ {H : Type 0} (law : Law H) (p : View) (engine : Engine) (a : Activation
     pub charged_at : (r : Result Bool OutOfMemory) (s' : Run H) (n' : StepsView) (host' : H)
         (y : EvalAltResult) → SimulatesCharge law p engine h.target s3 n2 host r s' n' host' →
         s'.stacks.operands ≡ take h.operands s.stacks.operands →
+        s'.stacks.cursors ≡ outermost h.cursors s.stacks.cursors →
+        s'.stacks.totals ≡ outermost h.totals s.stacks.totals →
         s'.stacks.handlers ≡ record h { caught = Some y } ∷ s.stacks.handlers →
         problem_of y ≡ what →
         Catches (is_out r) s' n' host'
         (catch_continuation r s'.fault h.target (frame_in a s'))
-    charged_at r s' n' host' y did operands handlers is =
+    charged_at r s' n' host' y did operands cursors totals handlers is =
         at r (then_exactly charges (did caught_frame at_target fails)) where
+          cursors_are : outermost h.cursors (cursors_in s.stacks.cursors)
+              ≡ cursors_in s'.stacks.cursors
+          cursors_are =
+              sym (ap cursors_in cursors ∙ map_outermost cursor_in h.cursors s.stacks.cursors)
+
+          totals_are : outermost h.totals (totals_in s.stacks.totals) ≡ totals_in s'.stacks.totals
+          totals_are = sym (ap totals_in totals ∙ map_outermost total_in h.totals s.stacks.totals)
+
+          handlers_are : record (handler_in h) { caught = Some what } ∷ handlers_in s.stacks.handlers
+              ≡ handlers_in s'.stacks.handlers
+          handlers_are = rw (handlers, is) refl
+
           frames : (place : Option Place) → caught_frame place ≡ frame_in a s' place
-          frames place = rw (operands, handlers, is) refl
+          frames place = λ i. record (frame_in a s place) {
+            operands = sym operands i;
+            cursors = cursors_are i;
+            totals = totals_are i;
+            handlers = handlers_are i;
+          }
 
           at : (r : Result Bool OutOfMemory) → Catches (is_out r) s' n' host'
               (charge_continuation r s'.fault caught_frame at_target fails) →

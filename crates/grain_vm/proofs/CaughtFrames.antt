@@ -6,9 +6,10 @@ use Rattle.grain_fault.specs.Problems.{Problem, NoMemory, problem_of}
 use Rattle.grain_fault.specs.declared.faults.EvalAltResult.{EvalAltResult}
 use Rattle.grain_program.specs.declared.code.parts.Chunk.{Chunk}
 use Rattle.grain_program.specs.View.{View}
-use Rattle.grain_program.specs.laws.TypedAt.{IsTypedAt, catches, covers_height}
+use Rattle.grain_program.specs.laws.TypedAt.{IsTypedAt, catches, covers_cursors, covers_height}
 use Rattle.grain_program.specs.Shapes.{TryHandler}
 use Rattle.grain_program.specs.TypedAt.{HasName}
+use Rattle.grain_stack.specs.declared.cursors.Cursor.{Cursor}
 use Rattle.grain_stack.specs.declared.handlers.Handler.{Handler}
 use Rattle.grain_stack.specs.Views.{StackFrame}
 use Rattle.grain_global.specs.declared.engines.Engine.{Engine}
@@ -155,28 +156,37 @@ none_catches {H} m f s s1 t n host offers others is =
             ∙ rw others refl;
       }
 
--- the handler that catches has its operands and its name, and stands in a typing
+-- the handler that catches has its operands, its cursors and its name, and stands in a typing
 pub can_catch : {H : Type 0} (p : View) (f : Activation) (s s1 : Run H) (h : Handler) →
     CanCatch p f s → StandsFor s.stacks.handlers (h ∷ s1.stacks.handlers) →
     s1 ≡ record s {
       stacks = record s.stacks { handlers = s1.stacks.handlers };
       fault = s1.fault;
-    } → (h.operands ≤ length s1.stacks.operands) × HasName p h.variable ×
-    IsTypedAt p f.chunk h.target h.operands (try_in h ∷ tries_in s1.stacks.handlers) ×
-    Above f.base (h ∷ s1.stacks.handlers)
+    } → (h.operands ≤ length s1.stacks.operands) × (h.cursors ≤ length s1.stacks.cursors) ×
+    HasName p h.variable × IsTypedAt p f.chunk h.target h.operands h.cursors
+    (try_in h ∷ tries_in s1.stacks.handlers) × Above f.base (h ∷ s1.stacks.handlers)
 can_catch p f s s1 h can stands others =
-    let covered = stands.covered p f.chunk can.0 can.2 in
+    let covered = stands.covered p f.chunk can.0 can.1 can.4 in
+    let hs = tries_in s1.stacks.handlers in
     let same : s1.stacks.operands ≡ s.stacks.operands =
-    ap (λ (q : Run _). q.stacks.operands) others in (
+    ap (λ (q : Run _). q.stacks.operands) others in
+    let alike : s1.stacks.cursors ≡ s.stacks.cursors =
+    ap (λ (q : Run _). q.stacks.cursors) others in (
       omega (
         arith,
-        covers_height p f.chunk can.0 (try_in h) (tries_in s1.stacks.handlers) covered,
-        can.1,
+        covers_height p f.chunk can.0 can.1 (try_in h) hs covered,
+        can.2,
         ap (λ (xs : List Held). length xs) same,
       ),
-      covered.covers.1,
-      catches p f.chunk can.0 (try_in h) (tries_in s1.stacks.handlers) covered,
-      stands.above f.base can.3,
+      omega (
+        arith,
+        covers_cursors p f.chunk can.0 can.1 (try_in h) hs covered,
+        can.3,
+        ap (λ (cs : List Cursor). length cs) alike,
+      ),
+      covered.covers.2,
+      catches p f.chunk can.0 can.1 (try_in h) hs covered,
+      stands.above f.base can.5,
     )
 
 module _ {H : Type 0} (s s1 s2 : Run H) (h : Handler)
@@ -199,8 +209,8 @@ module _ {H : Type 0} (s s1 s2 : Run H) (h : Handler)
           later = omega (arith, k.later, ap (λ (q : Run H). q.count) others);
         },
         by.1 ∙ ap (λ (q : Run H). q.stacks.noted) others,
-        omega (arith, by.5, ap (λ (q : Run H). q.count) others),
         omega (arith, by.6, ap (λ (q : Run H). q.count) others),
+        omega (arith, by.7, ap (λ (q : Run H). q.count) others),
       )
 
   -- it is typed at the target
@@ -210,14 +220,15 @@ module _ {H : Type 0} (s s1 s2 : Run H) (h : Handler)
   typed_at p f can stands false e by = absurd cc
   typed_at p f can stands true e by =
       let at = can_catch p f s s1 h can stands others in
-      let handlers = by.4.1 in (
-        omega (arith, at.3.0, by.3),
-        subst (λ (ts : List TryHandler).
-            IsTypedAt p f.chunk h.target (length s2.stacks.operands) ts)
-            (sym (ap tries_in handlers))
-            (subst (λ (n : ℕ). IsTypedAt p f.chunk h.target n
-            (try_in h ∷ tries_in s1.stacks.handlers)) (sym by.2) at.2),
-        subst (λ (hs : List Handler). Above f.base hs) (sym handlers) (at.3.0, at.3.1),
+      let handlers = by.5.1 in
+      let hs = try_in h ∷ tries_in s1.stacks.handlers in (
+        omega (arith, at.4.0, by.4),
+        subst (λ (ts : List TryHandler). IsTypedAt p f.chunk h.target (length s2.stacks.operands)
+            (length s2.stacks.cursors) ts) (sym (ap tries_in handlers))
+            (subst (λ (k : ℕ). IsTypedAt p f.chunk h.target (length s2.stacks.operands) k hs)
+            (sym by.3)
+            (subst (λ (n : ℕ). IsTypedAt p f.chunk h.target n h.cursors hs) (sym by.2) at.3)),
+        subst (λ (hs : List Handler). Above f.base hs) (sym handlers) (at.4.0, at.4.1),
       )
 
 -- the frame that goes on runs

@@ -52,6 +52,6 @@ pub chain_stepped : {H : Type 0} (law : Law H) (p : View) (engine : Engine) (a b
     Stepped (setup law p engine) a r c
 chain_stepped {H = H} law p engine a b c x index next {r} runs is did walked =
     let here = is_chain (setup law p engine) a b x index next is did in
-    arm_bound refl refl here.0 runs
+    arm_bound refl refl refl here.0 runs
     (subst (λ (k : Moment H). PerformsBound (setup law p engine) k (op.Chain index) next r c)
     here.1 walked)

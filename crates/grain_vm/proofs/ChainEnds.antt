@@ -86,19 +86,22 @@ progresses_from engine s s1 s' f f1 f' later address (inr further) =
 pub lands_whole : {H : Type 0} (engine : Engine) (s s1 s' : Run H) (f f1 f' : Activation)
     (ts : List ℕ) (takes : ℕ) (r : Result Progress OutOfMemory) → s.count ≤ s1.count →
     f1.address ≡ f.address → length s1.stacks.operands ≡ length s.stacks.operands - takes →
-    s1.stacks.handlers ≡ s.stacks.handlers →
+    s1.stacks.handlers ≡ s.stacks.handlers → s1.stacks.cursors ≡ s.stacks.cursors →
     ContinuesAt engine s1 f1 s' f' ts 0 1 s1.stacks.handlers r →
     ContinuesAt engine s f s' f' ts takes 1 s.stacks.handlers r
-lands_whole engine s s1 s' f f1 f' ts takes (Ok progress.Continues) later address long handlers l = (
-  l.0,
-  omega (arith, l.1, long),
-  l.2 ∙ handlers,
-  progresses_from engine s s1 s' f f1 f' later address l.3,
-)
-lands_whole engine s s1 s' f f1 f' ts takes (Ok progress.Returned) later address long handlers l = tt
-lands_whole engine s s1 s' f f1 f' ts takes (Ok progress.Failed) later address long handlers l =
-    (omega (arith, l.0, long), l.1 ∙ handlers)
-lands_whole engine s s1 s' f f1 f' ts takes (Err e) later address long handlers l = tt
+lands_whole engine s s1 s' f f1 f' ts takes (Ok progress.Continues) later address long handlers cursors
+    l = (
+      l.0,
+      omega (arith, l.1, long),
+      l.2 ∙ handlers,
+      progresses_from engine s s1 s' f f1 f' later address l.3,
+      l.4 ∙ cursors,
+    )
+lands_whole engine s s1 s' f f1 f' ts takes (Ok progress.Returned) later address long handlers cursors
+    l = tt
+lands_whole engine s s1 s' f f1 f' ts takes (Ok progress.Failed) later address long handlers cursors l =
+    (omega (arith, l.0, long), l.1 ∙ handlers, l.2 ∙ cursors)
+lands_whole engine s s1 s' f f1 f' ts takes (Err e) later address long handlers cursors l = tt
 
 -- ---- the root is back
 
@@ -135,14 +138,14 @@ module _ {H : Type 0} (m : Setup H) (f f' : Activation) (s s' : Run H) (n n' : S
       ContinuesAt m.engine s f s' f' (next ∷ []) 0 1 s.stacks.handlers r
   ended_lands (home.Entry i) h does =
       lands_whole m.engine s (with_root s (home.Entry i) h) s' f f f' (next ∷ []) 0 r (omega arith) refl
-      (omega arith) refl does.lands
+      (omega arith) refl refl does.lands
   ended_lands (home.Cell j) h does =
       lands_whole m.engine s (with_root s (home.Cell j) h) s' f f f' (next ∷ []) 0 r (omega arith) refl
-      (omega arith) refl does.lands
+      (omega arith) refl refl does.lands
   ended_lands home.Operand h does = does.lands
   ended_lands home.This h does =
       lands_whole m.engine s (with_root s home.This h) s' f f f' (next ∷ []) 0 r (omega arith) refl
-      (omega arith) refl does.lands
+      (omega arith) refl refl does.lands
 
 -- a scope is as long as before
 pub root_long : {H : Type 0} (s : Run H) (a : Home) (h : Held) →

@@ -101,6 +101,8 @@ still_under_way p s k next blamed w v t t' over way = record {
   bound = still_bound w.home s t t' over.receivers way.bound;
   long = ap (λ (l : List Entry). length l) over.scope ∙ way.long;
   operands = over.operands ∙ way.operands;
+  cursors = over.cursors ∙ way.cursors;
+  totals = over.totals ∙ way.totals;
   handlers = over.handlers ∙ way.handlers;
   room = over.room ∙ way.room;
   noted = over.noted ∙ way.noted;
@@ -155,10 +157,11 @@ module _ {H : Type 0} (m : Setup H) (a : Moment H) (k next : ℕ) where
 -- the frame in which the walk ends is the one in which it began, without the chain's operands
 over_same : {H : Type 0} (f f1 : Activation) (s s1 : Run H) (c : Chain) (blamed before x : Option ℕ) →
     f1 ≡ record f { slot = x } → s1.stacks.operands ≡ under (chain_takes c) s.stacks.operands →
+    s1.stacks.cursors ≡ s.stacks.cursors → s1.stacks.totals ≡ s.stacks.totals →
     s1.stacks.handlers ≡ s.stacks.handlers → before ≡ blamed →
     over_frame f1 s1 before ≡ walked_frame f s c blamed
-over_same f f1 s s1 c blamed before x frame operands handlers blames =
-    fun_ext (λ place. rw (frame, operands, handlers, blames) refl)
+over_same f f1 s s1 c blamed before x frame operands cursors totals handlers blames =
+    fun_ext (λ place. rw (frame, operands, cursors, totals, handlers, blames) refl)
 
 -- what follows a walk does not depend on whether something changed
 pub after_blind : {H : Type 0} (k next : ℕ) (a : Home) (b : Bool) (g : Option Place → Frame) →
@@ -180,6 +183,8 @@ only_retraced s t l is = rw is (record {
   noted = refl;
   outer = refl;
   operands = refl;
+  cursors = refl;
+  totals = refl;
   handlers = refl;
   later = omega arith;
 })
@@ -205,7 +210,7 @@ module _ {H : Type 0} (m : Setup H) (a : Moment H) (k next : ℕ) (w : Walking) 
   same_rest =
       ap (λ (g : Option Place → Frame). follows w.index w.next g)
       (over_same a.frame f1 a.run s1 chain_here a.frame.slot w.blamed f1.slot frame
-      way.operands way.handlers way.blames)
+      way.operands way.cursors way.totals way.handlers way.blames)
       ∙ ap (λ (j : ℕ). follows j w.next began) way.index
       ∙ ap (λ (to : ℕ). follows k to began) way.goes_on
 
@@ -246,7 +251,7 @@ module _ {H : Type 0} (m : Setup H) (a : Moment H) (k next : ℕ) (w : Walking) 
     lands = lands_whole m.engine a.run s1 s' a.frame f1 f' (next ∷ []) (takes_of m.program (op.Chain k))
         r way.later (ap (λ (f : Activation). f.address) frame)
         (omega (arith, long_after (omega (arith, ready.operands))))
-        way.handlers
+        way.handlers way.cursors
         (subst (λ (to : ℕ). ContinuesAt m.engine s1 f1 s' f' (to ∷ []) 0 1 s1.stacks.handlers r)
         way.goes_on ends.lands);
     before = ends.before ∙ before;

@@ -55,6 +55,8 @@ over_then s t u one two = record {
   noted = two.noted ∙ one.noted;
   outer = two.outer ∙ one.outer;
   operands = two.operands ∙ one.operands;
+  cursors = two.cursors ∙ one.cursors;
+  totals = two.totals ∙ one.totals;
   handlers = two.handlers ∙ one.handlers;
   later = omega (arith, one.later, two.later);
 }

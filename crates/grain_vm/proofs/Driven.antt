@@ -121,7 +121,8 @@ module _ {H : Type 0} (m : Setup H) (k : ℕ) (f : Option Place → Frame) (seat
         no_more = omega arith
 
   -- one turn: what is needed was done, and the walk goes on with it
-  pub turned : (missed : Option (List Fault)) (w : Walk) (o : Result Dynamic EvalAltResult) (x left : Option Held)
+  pub turned : (missed : Option (List Fault)) (w : Walk) (o : Result Dynamic EvalAltResult)
+      (x left : Option Held)
       (n mid : StepsView) (host host' : H) (start : Computation H) (s0 : Run H) (v : Walk)
       (a : WalkAnswer) → Waits m.program w x → SameFlag x left →
       Simulates m (beside scope this s0 n host) start (is_want o) (beside scope this s mid host')
@@ -140,7 +141,8 @@ module _ {H : Type 0} (m : Setup H) (k : ℕ) (f : Option Place → Frame) (seat
       (beside scope this s mid host')
       (walk_seated k f seat done missed (resumed m.engine m.program w w.awaits (outcome_of o)) us))
       (lent_left m.program w x left waits same) performs)
-      (did_on missed (with_receiver w left) (resumed m.engine m.program w w.awaits (outcome_of o)) v a mid host'
+      (did_on missed (with_receiver w left) (resumed m.engine m.program w w.awaits (outcome_of o)) v a mid
+      host'
       did rooted rooted') (persists (is_want o) mid.passed v.marks (is_out a) carries)
 
 -- a receiver leaves the flag of the first root

@@ -135,6 +135,8 @@ cells_over s s' is = rw is (record {
   noted = refl;
   outer = refl;
   operands = refl;
+  cursors = refl;
+  totals = refl;
   handlers = refl;
   later = omega arith;
 })
@@ -153,6 +155,8 @@ over_between {H = H} s s1 s2 t first over last =
       noted = at.noted;
       outer = at.outer;
       operands = at.operands;
+      cursors = at.cursors;
+      totals = at.totals;
       handlers = at.handlers;
       later = at.later;
     }) where
@@ -166,6 +170,8 @@ over_between {H = H} s s1 s2 t first over last =
         noted = over.noted;
         outer = over.outer;
         operands = over.operands;
+        cursors = over.cursors;
+        totals = over.totals;
         handlers = over.handlers;
         later = over.later;
       }

@@ -28,11 +28,11 @@ use Rattle.grain_means.specs.Means.{setup}
 use Rattle.grain_means.specs.lemmas.Stretches.{same, compose}
 use Rattle.grain_global.specs.StepsView.{StepsView}
 use Rattle.grain_frame.specs.Abstraction.{ContinuesAt, ImplementsBound, KeepsFrame, Moment, PerformsBound, Runs, StandsAt, Stepped, abstraction, continuation, frame_in, is_out, moment}
-use Rattle.grain_vm.specs.Attempts.{IsPending}
+use Rattle.grain_vm.specs.Attempts.{IsWay}
 use Rattle.grain_vm.specs.Finding.{Finds, FindsFunction, FindsHere, IsCall, found_of}
 use Rattle.grain_frame.specs.declared.activations.Activation.{Activation}
-use Rattle.grain_vm.specs.declared.attempts.Pending.{Pending}
-use Rattle.grain_vm.specs.declared.attempts.Pending.TheVariants as pending
+use Rattle.grain_vm.specs.declared.attempts.Way.{Way}
+use Rattle.grain_vm.specs.declared.attempts.Way.TheVariants as way
 use Rattle.grain_vm.specs.declared.finding.Found.{Found}
 use Rattle.grain_vm.specs.declared.finding.Found.TheVariants as found
 use Rattle.grain_frame.specs.declared.runs.Progress.{Progress}
@@ -65,10 +65,6 @@ none_numbered p o e = ap (function_numbered p) (sym e)
 curried_is : (ds : List Dynamic) → map read_write ds ≡ map (λ t. read_write (value_of t)) (trees ds)
 curried_is [] = refl
 curried_is (d ∷ ds) = rw (value_of-tree d, curried_is ds) refl
-
--- a frame that takes from another the address, the floor and the slot
-abbrev taking : Activation → Activation → Activation
-taking f g = record f { address = g.address; floor = g.floor; slot = g.slot }
 
 -- what is kept from a run on that differs in its operands alone
 pub kept_before : {H : Type 0} (f f2 : Activation) (s s1 s2 : Run H) →
@@ -222,7 +218,7 @@ module _ {H : Type 0} (law : Law H) (p : View) (engine : Engine) (f : Activation
     kept = kept_before f f2 s s1 s2 others did.kept;
     lands = lands_on engine s s2 (record s.stacks { operands = s1.stacks.operands }) f f2
         (next ∷ []) (next ∷ []) total 1 (count + 1) 1 s.stacks.handlers r
-        (omega (arith, height)) (omega (arith, height)) refl (λ b inside. inside)
+        refl (omega (arith, height)) (omega (arith, height)) refl (λ b inside. inside)
         (subst (λ (k : Run H). ContinuesAt engine k f s2 f2 (next ∷ []) total 1 k.stacks.handlers r)
         others did.lands);
     before = did.before;
@@ -243,94 +239,61 @@ pub finds_of : {H : Type 0} (law : Law H) (p : View) (engine : Engine) (f f' : A
 finds_of law p engine f f' s s' n n' o next host host' (Ok q) did = did
 finds_of law p engine f f' s s' n n' o next host host' (Err e) did = did
 
--- the same of the instruction at which a frame stands
-pub done_here : {H : Type 0} (law : Law H) (p : View) (engine : Engine) (f f' : Activation)
-    (s s' : Run H) (n n' : StepsView) (host host' : H) (r : Result Progress OutOfMemory) →
-    Stepped (setup law p engine) (moment f s n host) r (moment f' s' n' host') →
-    FindsHere (setup law p engine) (moment f s n host) (found_of r) (moment f' s' n' host')
-done_here law p engine f f' s s' n n' host host' (Ok q) did = did
-done_here law p engine f f' s s' n n' host host' (Err e) did = did
-
 -- what the instruction at which a frame stands comes to
 found_here : {H : Type 0} (law : Law H) (p : View) (engine : Engine) (f f' : Activation)
     (s s' : Run H) (n n' : StepsView) (o : Op) (next : ℕ) (host host' : H)
-    (r : Result Found OutOfMemory) → Runs p f s → StandsAt p f s o next → IsCall o next →
+    (r : Result Found OutOfMemory) → Runs p f s → StandsAt p f s o next → IsCall p o next →
     Finds (setup law p engine) (moment f s n host) o next r (moment f' s' n' host') →
     FindsHere (setup law p engine) (moment f s n host) r (moment f' s' n' host')
 found_here law p engine f f' s s' n n' o next host host' (Ok (found.Done q)) runs at call did =
-    arm_bound refl call.keeps at runs did
+    arm_bound refl call.keeps call.holds at runs did
 found_here law p engine f f' s s' n n' o next host host' (Ok (found.Function number to)) runs at
     call did =
     subst (λ (k : ℕ). FindsHere (setup law p engine) (moment f s n host) (Ok
     (found.Function number k)) (moment f' s' n' host')) (sym did.0) (o, at, call, did.1)
 found_here law p engine f f' s s' n n' o next host host' (Err e) runs at call did =
-    arm_bound refl call.keeps at runs did
+    arm_bound refl call.keeps call.holds at runs did
 
--- the frame has its chunk and its base, whatever its instruction came to
-found_kept : {H : Type 0} (law : Law H) (p : View) (engine : Engine) (f f' : Activation)
-    (s s' : Run H) (n n' : StepsView) (o : Op) (next : ℕ) (host host' : H)
-    (r : Result Found OutOfMemory) → Finds (setup law p engine) (moment f s n host) o next r
-    (moment f' s' n' host') →
-    (f'.chunk ≡ f.chunk) × (f'.base ≡ f.base)
-found_kept law p engine f f' s s' n n' o next host host' (Ok (found.Done q)) did =
-    (did.kept.chunk, did.kept.base)
-found_kept law p engine f f' s s' n n' o next host host' (Ok (found.Function number to)) did =
-    (ap (λ (a : Activation). a.chunk) did.1.frame, ap (λ (a : Activation). a.base) did.1.frame)
-found_kept law p engine f f' s s' n n' o next host host' (Err e) did =
-    (did.kept.chunk, did.kept.base)
+-- what a call of a function by its name comes to
+pub function_found_so : {H : Type 0} (law : Law H) (p : View) (engine : Engine) (f : Activation)
+    (s : Run H) (n : StepsView) (number next : ℕ) (host : H) (x : Way) →
+    x ≡ way.Function number next → IsWay p f s x →
+    FindsHere (setup law p engine) (moment f s n host) (Ok (found.Function number next))
+    (moment f s n host)
+function_found_so law p engine f s n number next host x is ways =
+    let known = subst (λ (y : Way). IsWay p f s y) is ways in (
+      op.Call known.0 known.1,
+      known.2,
+      record { leads = refl; gives = refl; holds = refl; keeps = refl },
+      named_found law p engine f s n known.0 known.1 next number host known.3 known.4
+          known.2.seen.provides.enough,
+    )
 
--- the same where a copy of the frame was given, from which the frame takes what may have changed
-found_back : {H : Type 0} (law : Law H) (p : View) (engine : Engine) (f f' : Activation)
-    (s s' : Run H) (n n' : StepsView) (o : Op) (next : ℕ) (host host' : H)
-    (r : Result Found OutOfMemory) → Runs p f s → StandsAt p f s o next → IsCall o next →
-    Finds (setup law p engine) (moment f s n host) o next r (moment f' s' n' host') →
-    FindsHere (setup law p engine) (moment f s n host) r (moment (taking f f') s' n' host')
-found_back law p engine f f' s s' n n' o next host host' r runs at call did =
-    let kept = found_kept law p engine f f' s s' n n' o next host host' r did in
-    subst (λ (a : Activation). FindsHere (setup law p engine) (moment f s n host) r
-    (moment a s' n' host')) (taken_back f f' kept.0 kept.1)
-    (found_here law p engine f f' s s' n n' o next host host' r runs at call did)
-
--- what `call` comes to
-pub call_found : {H : Type 0} (law : Law H) (p : View) (engine : Engine) (f f' : Activation)
-    (s s' : Run H) (n n' : StepsView) (name count next : ℕ) (host host' : H) (q : Pending)
-    (r : Result Found OutOfMemory) → Runs p f s → q ≡ pending.Call name count next →
-    IsPending p f s q → Finds (setup law p engine) (moment f s n host) (op.Call name count) next r
+-- what `call_fn_ptr` comes to
+pub pointer_found : {H : Type 0} (law : Law H) (p : View) (engine : Engine) (f f' : Activation)
+    (s s' : Run H) (n n' : StepsView) (count next : ℕ) (host host' : H)
+    (r : Result Found OutOfMemory) → Runs p f s → StandsAt p f s (op.CallFnPtr count) next →
+    Finds (setup law p engine) (moment f s n host) (op.CallFnPtr count) next r
     (moment f' s' n' host') →
     FindsHere (setup law p engine) (moment f s n host) r (moment f' s' n' host')
-call_found law p engine f f' s s' n n' name count next host host' q r runs is waits did =
-    found_here law p engine f f' s s' n n' (op.Call name count) next host host' r runs
-    (subst (λ (k : Pending). IsPending p f s k) is waits)
-    (record { leads = refl; gives = refl; keeps = refl }) did
+pointer_found law p engine f f' s s' n n' count next host host' r runs at did =
+    found_here law p engine f f' s s' n n' (op.CallFnPtr count) next host host' r runs at
+    (record { leads = refl; gives = refl; holds = refl; keeps = refl }) did
 
--- what `call_fn_ptr` comes to, on a copy of the frame
-pub pointer_found : {H : Type 0} (law : Law H) (p : View) (engine : Engine) (f f' : Activation)
-    (s s' : Run H) (n n' : StepsView) (count next : ℕ) (host host' : H) (q : Pending)
-    (r : Result Found OutOfMemory) → Runs p f s → q ≡ pending.Pointer count next →
-    IsPending p f s q → Finds (setup law p engine) (moment f s n host) (op.CallFnPtr count) next r
-    (moment f' s' n' host') →
-    FindsHere (setup law p engine) (moment f s n host) r (moment (taking f f') s' n' host')
-pointer_found law p engine f f' s s' n n' count next host host' q r runs is waits did =
-    found_back law p engine f f' s s' n n' (op.CallFnPtr count) next host host' r runs
-    (subst (λ (k : Pending). IsPending p f s k) is waits)
-    (record { leads = refl; gives = refl; keeps = refl }) did
+-- it was done without a function
+pub is_done : {H : Type 0} (m : Setup H) (a b : Moment H) (x : Found) (q : Progress) →
+    x ≡ found.Done q → FindsHere m a (Ok x) b → Stepped m a (Ok q) b
+is_done m a b x q is finds = subst (λ (y : Found). FindsHere m a (Ok y) b) is finds
 
--- the frame has its chunk and its base, whatever came of its instruction
-kept_here : {H : Type 0} (m : Setup H) (a b : Moment H) (r : Result Found OutOfMemory) →
-    FindsHere m a r b → (b.frame.chunk ≡ a.frame.chunk) × (b.frame.base ≡ a.frame.base)
-kept_here m a b (Ok (found.Done q)) did = (did.kept.chunk, did.kept.base)
-kept_here m a b (Ok (found.Function number next)) did = rw did.3.frame (refl, refl)
-kept_here m a b (Err e) did = (did.kept.chunk, did.kept.base)
-
--- what any other comes to, on a copy of the frame
-pub other_found : {H : Type 0} (law : Law H) (p : View) (engine : Engine) (f f' : Activation)
-    (s s' : Run H) (n n' : StepsView) (host host' : H) (r : Result Found OutOfMemory) →
-    FindsHere (setup law p engine) (moment f s n host) r (moment f' s' n' host') →
-    FindsHere (setup law p engine) (moment f s n host) r (moment (taking f f') s' n' host')
-other_found law p engine f f' s s' n n' host host' r did =
-    let kept = kept_here (setup law p engine) (moment f s n host) (moment f' s' n' host') r did in
-    subst (λ (a : Activation). FindsHere (setup law p engine) (moment f s n host) r
-    (moment a s' n' host')) (taken_back f f' kept.0 kept.1) did
+-- what was done on a copy of the frame, from which the frame takes what may have changed
+pub stepped_on_copy : {H : Type 0} (law : Law H) (p : View) (engine : Engine) (f f' : Activation)
+    (s s' : Run H) (n n' : StepsView) (host host' : H) (r : Result Progress OutOfMemory) →
+    Stepped (setup law p engine) (moment f s n host) r (moment f' s' n' host') →
+    Stepped (setup law p engine) (moment f s n host) r
+    (moment (record f { address = f'.address; floor = f'.floor; slot = f'.slot }) s' n' host')
+stepped_on_copy law p engine f f' s s' n n' host host' r did =
+    subst (λ (a : Activation). Stepped (setup law p engine) (moment f s n host) r
+    (moment a s' n' host')) (taken_back f f' did.kept.chunk did.kept.base) did
 
 -- the function that was found
 pub is_function : {H : Type 0} (law : Law H) (p : View) (engine : Engine) (f f' : Activation)
@@ -364,12 +327,12 @@ found_stepped {H = H} law p engine f f1 f2 s s1 s2 n n1 n2 number next host host
     (λ m place w. instr m o next (frame_in f s place) w) (is_out r) (abstraction s2 n2 host2)
     (continuation r s2.fault (frame_in f2 s2)) =
     compose (same (finds.goes g is)) goes tt in
-    done law p engine f s o at.width runs at.seen call.keeps at.read n f2 s2 n2 host host2
+    done law p engine f s o at.width runs at.seen call.holds call.keeps at.read n f2 s2 n2 host host2
     (subst (λ (k : ℕ). Simulates (setup law p engine) (abstraction s n host)
     (λ m place w. instr m o k (frame_in f s place) w) (is_out r) (abstraction s2 n2 host2)
     (continuation r s2.fault (frame_in f2 s2))) there one)
     kept_here
-    (subst (λ (k : ℕ). ContinuesAt engine s f s2 f2 (leads_of o k) (takes_of p o) (gives_of o)
+    (subst (λ (k : ℕ). ContinuesAt engine s f s2 f2 (leads_of p o k) (takes_of p o) (gives_of o)
     s.stacks.handlers r) there lands_here)
     (before ∙ finds.before) where
       kept_here : KeepsFrame f s f2 s2
@@ -387,13 +350,13 @@ found_stepped {H = H} law p engine f f1 f2 s s1 s2 n n1 n2 number next host host
           (subst (λ (q : Run H). ContinuesAt engine q f1 s2 f2 (next ∷ []) (length g.params) 1
           q.stacks.handlers r) finds.others lands)
 
-      here : (b : ℕ) → In b (next ∷ []) → In b (leads_of o next)
+      here : (b : ℕ) → In b (next ∷ []) → In b (leads_of p o next)
       here b inside = subst (λ (ts : List ℕ). In b ts) (sym call.leads) inside
 
-      lands_here : ContinuesAt engine s f s2 f2 (leads_of o next) (takes_of p o) (gives_of o)
+      lands_here : ContinuesAt engine s f s2 f2 (leads_of p o next) (takes_of p o) (gives_of o)
           s.stacks.handlers r
       lands_here =
-          lands_on engine s s2 stacks f f2 (next ∷ []) (leads_of o next) (length g.params) 1
+          lands_on engine s s2 stacks f f2 (next ∷ []) (leads_of p o next) (length g.params) 1
           (takes_of p o) (gives_of o) stacks.handlers r
-          (omega (arith, finds.operands g is, call.gives))
+          refl (omega (arith, finds.operands g is, call.gives))
           (omega (arith, finds.operands g is)) refl here from

@@ -224,6 +224,8 @@ over_apart have.Nothing s s' apart over = record {
   noted = over.noted;
   outer = over.outer;
   operands = over.operands;
+  cursors = over.cursors;
+  totals = over.totals;
   handlers = over.handlers;
   later = over.later;
 }
@@ -238,6 +240,8 @@ over_apart (have.Apart h) s s' apart over = record {
   noted = over.noted;
   outer = over.outer;
   operands = over.operands;
+  cursors = over.cursors;
+  totals = over.totals;
   handlers = over.handlers;
   later = over.later;
 }
@@ -253,6 +257,8 @@ retraced_over s s' t over = record {
   noted = over.noted;
   outer = over.outer;
   operands = over.operands;
+  cursors = over.cursors;
+  totals = over.totals;
   handlers = over.handlers;
   later = over.later;
 }
@@ -280,6 +286,8 @@ walked_native_over l s s2 s3 n2 n3 own o o' apart over raised =
       noted = did.noted;
       outer = did.outer;
       operands = did.operands;
+      cursors = did.cursors;
+      totals = did.totals;
       handlers = did.handlers;
       later = did.later;
     }

@@ -10,6 +10,7 @@ mod Pairs
 mod Calling
 mod Entering
 mod Found
+mod Plain
 mod Offering
 mod CatchSteps
 mod CaughtFrames

@@ -9,7 +9,8 @@ use Rattle.grain_value.specs.Operands.{below, under, arguments, read_write}
 use Rattle.grain_program.specs.declared.code.instruction_set.Op.{Op}
 use Rattle.grain_program.specs.declared.code.instruction_set.Op.TheVariants as op
 use Rattle.grain_program.specs.declared.code.effects.Handling.TheVariants as handling
-use Rattle.grain_program.specs.Effects.{handling_of}
+use Rattle.grain_program.specs.declared.code.effects.Looping.TheVariants as looping
+use Rattle.grain_program.specs.Effects.{handling_of, looping_of}
 use Rattle.grain_program.specs.Shapes.{TryHandler}
 use Rattle.grain_program.specs.Decoding.{op_at}
 use Rattle.grain_program.specs.TypedAt.{IsTypedAt, Verified}
@@ -82,6 +83,7 @@ module _ {H : Type 0} (law : Law H) (p : View) (engine : Engine) (f : Activation
       omega (arith, length_loaded),
       refl,
       inr (omega arith, ready.ahead),
+      refl,
     );
     before = refl;
   }
@@ -105,6 +107,7 @@ module _ {H : Type 0} (law : Law H) (p : View) (engine : Engine) (f : Activation
       omega (arith, length_loaded),
       refl,
       inr (omega arith, ready.ahead),
+      refl,
     );
     before = refl;
   }
@@ -157,6 +160,7 @@ module _ {H : Type 0} (law : Law H) (p : View) (engine : Engine) (f : Activation
       ),
       refl,
       inr (omega arith, ready.ahead),
+      refl,
     );
     before = refl;
   }
@@ -209,6 +213,7 @@ module _ {H : Type 0} (law : Law H) (p : View) (engine : Engine) (f : Activation
       omega (arith, length_loaded),
       refl,
       inr (omega arith, ready.ahead),
+      refl,
     );
     before = refl;
   }
@@ -218,19 +223,20 @@ pub stepped_on : {H : Type 0} (law : Law H) (p : View) (engine : Engine) (f : Ac
     H)
     (said o : Op) (width depth : ℕ) → said ≡ o → depth ≡ length s.stacks.operands →
     Runs p f s →
-    ((hs : List TryHandler) → IsTypedAt p f.chunk f.address depth hs →
-    Verified p f.chunk f.address depth hs said width) →
-    op_at p.code f.address ≡ Some (said, width) → handling_of o ≡ handling.Keep → (n : StepsView)
+    ((cursors : ℕ) (hs : List TryHandler) → IsTypedAt p f.chunk f.address depth cursors hs →
+    Verified p f.chunk f.address depth cursors hs said width) →
+    op_at p.code f.address ≡ Some (said, width) → looping_of o ≡ looping.Keep →
+    handling_of o ≡ handling.Keep → (n : StepsView)
     (f' : Activation) (s' : Run H) (n' : StepsView) (host : H) →
     PerformsOn (setup law p engine) (moment f s n host) o (f.address + width) (moment f' s' n' host)
     →
     Stepped (setup law p engine) (moment f s n host) (Ok progress.Continues) (moment f' s' n' host)
-stepped_on law p engine f s said o width depth is deep runs seen read keeps n f' s' n' host
+stepped_on law p engine f s said o width depth is deep runs seen read holds keeps n f' s' n' host
     (inl does) =
-    stepped law p engine f s said o width depth is deep runs seen read keeps n f' s' n' host host
+    stepped law p engine f s said o width depth is deep runs seen read holds keeps n f' s' n' host host
     does
-stepped_on law p engine f s said o width depth is deep runs seen read keeps n f' s' n' host
+stepped_on law p engine f s said o width depth is deep runs seen read holds keeps n f' s' n' host
     (inr two) =
     both law p engine f two.frame f' s two.run s' n two.counts n' host
-    (stepped law p engine f s said o width depth is deep runs seen read keeps n two.frame two.run
+    (stepped law p engine f s said o width depth is deep runs seen read holds keeps n two.frame two.run
     two.counts host host two.first) two.second

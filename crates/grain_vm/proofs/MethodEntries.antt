@@ -50,6 +50,8 @@ over_faulted s t count y is le = rw is (record {
   noted = refl;
   outer = refl;
   operands = refl;
+  cursors = refl;
+  totals = refl;
   handlers = refl;
   later = le;
 })
@@ -351,6 +353,8 @@ module _ {H : Type 0} (law : Law H) (p : View) (engine : Engine) (q : Position) 
               receivers = refl;
               caller = refl;
               operands = refl;
+              cursors = refl;
+              totals = refl;
               handlers = refl;
               room = refl;
               unnoted = refl;

@@ -71,6 +71,8 @@ module _ {H : Type 0} (engine : Engine) (g : Function) (x : Option Held) (s s1 s
     noted = ap (λ (v : StacksView). v.noted) stacks_back;
     outer = ap (λ (v : StacksView). v.outer) stacks_back;
     operands = ap (λ (v : StacksView). v.operands) stacks_back;
+    cursors = ap (λ (v : StacksView). v.cursors) stacks_back;
+    totals = ap (λ (v : StacksView). v.totals) stacks_back;
     handlers = ap (λ (v : StacksView). v.handlers) stacks_back;
     later = omega (arith, later, entered.count);
   })
@@ -127,7 +129,7 @@ module _ {H : Type 0} (m : Setup H) (c : MethodCall) (g : Function) (s : Run H) 
         let called : CallsMethod m c g s n host o (given_back (kept_back c.receiver) (this_of s2)) s3 n3
         host2 =
         λ scope heard. calls_on m c g s s1 s2 s3 n n1 n2 n3 host host1 host2 end o scope did.2
-        (λ place. rw (entered.operands, entered.handlers) refl) goes
+        (λ place. rw (entered.operands, entered.cursors, entered.totals, entered.handlers) refl) goes
         (there_again m.engine g c.receiver s s1 s2 entered around.outer around.saved around.level scope
         n2 host2) leaves persists first still heard in (
           rw result called,

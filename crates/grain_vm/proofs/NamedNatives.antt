@@ -73,21 +73,26 @@ progresses_through engine s t s' f g f' later same (inr further) =
 lands_through : {H : Type 0} (engine : Engine) (s t s' : Run H) (f g f' : Activation) (ts : List ℕ)
     (takes gives : ℕ) (hs : List Handler) (r : Result Progress OutOfMemory) → s.count ≤ t.count →
     g ≡ f → t.stacks.operands ≡ s.stacks.operands → t.stacks.handlers ≡ hs →
-    t.stacks.handlers ≡ s.stacks.handlers →
+    t.stacks.handlers ≡ s.stacks.handlers → t.stacks.cursors ≡ s.stacks.cursors →
     ContinuesAt engine t g s' f' ts takes gives t.stacks.handlers r →
     ContinuesAt engine s f s' f' ts takes gives hs r
 lands_through engine s t s' f g f' ts takes gives hs (Ok progress.Continues) later same ops become
-    stay l = (
+    stay cursors l = (
       l.0,
       l.1 ∙ ap (λ (os : List Held). length os - takes + gives) ops,
       l.2 ∙ become,
       progresses_through engine s t s' f g f' later same l.3,
+      l.4 ∙ cursors,
     )
 lands_through engine s t s' f g f' ts takes gives hs (Ok progress.Returned) later same ops become
-    stay l = tt
-lands_through engine s t s' f g f' ts takes gives hs (Ok progress.Failed) later same ops become stay
-    l = (omega (arith, l.0, ap (λ (os : List Held). length os) ops), l.1 ∙ stay)
-lands_through engine s t s' f g f' ts takes gives hs (Err e) later same ops become stay l = tt
+    stay cursors l = tt
+lands_through engine s t s' f g f' ts takes gives hs (Ok progress.Failed) later same ops become
+    stay cursors l = (
+      omega (arith, l.0, ap (λ (os : List Held). length os) ops),
+      l.1 ∙ stay,
+      l.2 ∙ cursors,
+    )
+lands_through engine s t s' f g f' ts takes gives hs (Err e) later same ops become stay cursors l = tt
 
 module _ {H : Type 0} {m : Setup H} {a b : Moment H} {rule : Computation H} {ts : List ℕ}
     {takes gives : ℕ} {hs : List Handler} (w : Waiting)
@@ -120,7 +125,8 @@ module _ {H : Type 0} {m : Setup H} {a b : Moment H} {rule : Computation H} {ts 
         same = compose {one = false} waits.same did.same tt;
         kept = kept_through a.frame b.frame c.frame a.run b.run c.run waits.kept did.kept;
         lands = lands_through m.engine a.run b.run c.run a.frame b.frame c.frame ts takes gives hs r
-            waits.kept.later waits.lands.6 waits.lands.3 waits.lands.4 waits.lands.5 did.lands;
+            waits.kept.later waits.lands.6 waits.lands.3 waits.lands.4 waits.lands.5 waits.lands.7
+            did.lands;
         before = did.before ∙ waits.before;
       }
 
@@ -148,18 +154,6 @@ pub it_ended : {H : Type 0} {m : Setup H} {a b : Moment H} {rule : Computation H
 it_ended e (Ok y) out did = absurd cc
 it_ended e (Err y) out did =
     record { same = did.same; kept = did.kept; lands = tt; before = did.before }
-
--- ---- on a copy of the frame
-
-pub on_copy : {H : Type 0} {m : Setup H} {a : Moment H} {rule : Computation H} {ts : List ℕ}
-    {takes gives : ℕ} {hs : List Handler} {r : Result Progress OutOfMemory} (f' : Activation)
-    (s' : Run H) (n' : StepsView) (host' : H) →
-    ImplementsBound m a rule ts takes gives hs r (moment f' s' n' host') →
-    ImplementsBound m a rule ts takes gives hs r
-    (moment (record a.frame { address = f'.address; floor = f'.floor; slot = f'.slot }) s' n' host')
-on_copy {m = m} {a} {rule} {ts} {takes} {gives} {hs} {r} f' s' n' host' did =
-    subst (λ (g : Activation). ImplementsBound m a rule ts takes gives hs r (moment g s' n' host'))
-    (taken_back a.frame f' did.kept.chunk did.kept.base) did
 
 -- ---- the instruction
 

@@ -98,6 +98,8 @@ pub record OverSoFar {H : Type 0} (l : Loan) (s s' : Run H) : Type 0 where
   pub noted : s'.stacks.noted ≡ s.stacks.noted
   pub outer : s'.stacks.outer ≡ s.stacks.outer
   pub operands : s'.stacks.operands ≡ s.stacks.operands
+  pub cursors : s'.stacks.cursors ≡ s.stacks.cursors
+  pub totals : s'.stacks.totals ≡ s.stacks.totals
   pub handlers : s'.stacks.handlers ≡ s.stacks.handlers
   pub later : s.count ≤ s'.count
 
@@ -124,6 +126,8 @@ module _ {H : Type 0} (s : Run H) where
     noted = refl;
     outer = refl;
     operands = refl;
+    cursors = refl;
+    totals = refl;
     handlers = refl;
     later = omega arith;
   }
@@ -147,6 +151,8 @@ module _ {H : Type 0} (s t t1 : Run H) (over : MethodOver t t1) where
     noted = over.noted ∙ was.noted;
     outer = over.outer ∙ was.outer;
     operands = over.operands ∙ was.operands;
+    cursors = over.cursors ∙ was.cursors;
+    totals = over.totals ∙ was.totals;
     handlers = over.handlers ∙ was.handlers;
     later = omega (arith, was.later, over.later);
   }
@@ -162,6 +168,8 @@ so_over s t l was back = record {
   noted = was.noted;
   outer = was.outer;
   operands = was.operands;
+  cursors = was.cursors;
+  totals = was.totals;
   handlers = was.handlers;
   back = back;
   later = was.later;
@@ -188,6 +196,8 @@ module _ {H : Type 0} (s t : Run H) where
     noted = was.noted;
     outer = was.outer;
     operands = was.operands;
+    cursors = was.cursors;
+    totals = was.totals;
     handlers = was.handlers;
     later = was.later;
   }
@@ -238,6 +248,8 @@ module _ {H : Type 0} (s t t1 : Run H) (l l' : Loan) (is : SameLoan l l') (r : R
     noted = ap (λ (q : Run H). q.stacks.noted) told.others ∙ was.noted;
     outer = ap (λ (q : Run H). q.stacks.outer) told.others ∙ was.outer;
     operands = ap (λ (q : Run H). q.stacks.operands) told.others ∙ was.operands;
+    cursors = ap (λ (q : Run H). q.stacks.cursors) told.others ∙ was.cursors;
+    totals = ap (λ (q : Run H). q.stacks.totals) told.others ∙ was.totals;
     handlers = ap (λ (q : Run H). q.stacks.handlers) told.others ∙ was.handlers;
     later = omega (arith, was.later, ap (λ (q : Run H). q.count) told.others);
   }

@@ -34,12 +34,13 @@ left_one m h hs f x y w e = rw e refl
 
 -- handlers stand for themselves, and for those around the innermost
 pub stands_for_itself : (hs : List Handler) → StandsFor hs hs
-stands_for_itself hs = record { covered = λ p c depth h. h; above = λ base a. a }
+stands_for_itself hs = record { covered = λ p c depth cursors h. h; above = λ base a. a }
 
 pub stands_around : (gs : List Handler) (h : Handler) (hs : List Handler) → StandsFor gs (h ∷ hs) →
     StandsFor gs hs
 stands_around gs h hs s = record {
-  covered = λ p c depth is. uncovered p c depth (try_in h) (tries_in hs) (s.covered p c depth is);
+  covered = λ p c depth cursors is.
+      uncovered p c depth cursors (try_in h) (tries_in hs) (s.covered p c depth cursors is);
   above = λ base a. (s.above base a).1;
 }
 

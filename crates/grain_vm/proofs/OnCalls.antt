@@ -185,7 +185,7 @@ module _ {H : Type 0} (law : Law H) (p : View) (engine : Engine) (f : Activation
   back s2 n2 host2 left = rw (left.scope, left.level, left.receivers) refl
 
   alike : (s2 : Run H) → MethodOver taken s2 → frame_in f s2 ≡ frame_in f taken
-  alike s2 left = rw (left.operands, left.handlers) refl
+  alike s2 left = rw (left.operands, left.cursors, left.totals, left.handlers) refl
 
   kept_over : (f' : Activation) (s2 s' : Run H) → MethodOver taken s2 → KeepsFrame f s2 f' s' →
       KeepsFrame f s f' s'
@@ -229,7 +229,7 @@ module _ {H : Type 0} (law : Law H) (p : View) (engine : Engine) (f : Activation
     lands = lands_whole engine s s2 s' f f f' (next ∷ []) (k + 1 + 1) res left.later refl
         (ap (λ (hs : List Held). length hs) left.operands
         ∙ length-take-le (length s.stacks.operands - (k + 1 + 1)) s.stacks.operands (omega arith))
-        left.handlers ends.lands;
+        left.handlers left.cursors ends.lands;
     before = ends.before ∙ before;
   }
 

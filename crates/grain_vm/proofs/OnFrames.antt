@@ -200,7 +200,7 @@ module _ {H : Type 0} (law : Law H) (p : View) (engine : Engine) (f : Activation
 as_op : {H : Type 0} {m : Setup H} {a b : Moment H} {rule : Computation H} {hs : List Handler}
     {r : Result Progress OutOfMemory} (d : Destination) (count next : ℕ) →
     ImplementsBound m a rule (next ∷ []) (count + 1) 1 hs r b →
-    ImplementsBound m a rule (leads_of (op_on d count) next) (takes_of m.program (op_on d count))
+    ImplementsBound m a rule (leads_of m.program (op_on d count) next) (takes_of m.program (op_on d count))
     (gives_of (op_on d count)) hs r b
 as_op destination.Nowhere count next did = did
 as_op (destination.Slot slot) count next did = did
@@ -344,7 +344,7 @@ function_performed {H = H} law p engine f f1 f2 s s1 s2 n n1 n2 host host1 host2
       kept = kept_before f f2 s s1 s2 finds.others
           (subst (λ (a : Activation). KeepsFrame a s1 f2 s2) finds.frame kept);
       lands = lands_on engine s s2 stacks f f2 (next ∷ []) (next ∷ []) (length g.params) 1 (count + 1) 1
-          stacks.handlers r (omega (arith, longer)) (omega (arith, longer)) refl (λ b inside. inside)
+          stacks.handlers r refl (omega (arith, longer)) (omega (arith, longer)) refl (λ b inside. inside)
           from;
       before = before ∙ finds.before;
     }) where

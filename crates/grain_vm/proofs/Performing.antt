@@ -72,7 +72,8 @@ apart_lent (Some h) = refl
 module _ {H : Type 0} (law : Law H) (lawful : IsLawful law) (m : Setup H) (own : m.law ≡ law) (k : ℕ)
     (f : Option Place → Frame) (seat : Seat) (done : Rests H) (named : Bool)
     (missed : Option (List Fault)) (r : Request) (q : Option Place) (go : Answer → Task)
-    (rs : List Held) (scope : List Entry) (this : Option Held) (s : Run H) (n : StepsView) (host : H) (seated : Seated seat this)
+    (rs : List Held) (scope : List Entry) (this : Option Held) (s : Run H) (n : StepsView)
+    (host : H) (seated : Seated seat this)
     (rooted : Rooted (first_held seat).read_only rs) (at : Binds rs q r.receiver) where
   abbrev ls : LocalState H
   ls = beside scope this s n host
@@ -181,7 +182,8 @@ module _ {H : Type 0} (law : Law H) (lawful : IsLawful law) (m : Setup H) (own :
           (found None none.0))
       performs_refused e (inr one) =
           fails_here e (Plain (NonPureCall call.name) r.pos) refl one.3
-          (hears_constant m k f seat done named missed call go rs r.receiver rooted at ls seated args flat one.0
+          (hears_constant m k f seat done named missed call go rs r.receiver rooted at ls seated
+          args flat one.0
           (found (Some one.0) one.1) (flag one.0 true one.2))
 
       -- it was called
@@ -217,7 +219,8 @@ module _ {H : Type 0} (law : Law H) (lawful : IsLawful law) (m : Setup H) (own :
                 HearsEnd m.law host seeks.0.key r.receiver (trees_in args) r.pos n o n' host' left →
                 Performed o left n' host'
             by (Ok v) did =
-                rw (did.1, did.2, did.3) (hears_value m k f seat done named missed call go rs r.receiver rooted
+                rw (did.1, did.2, did.3) (hears_value m k f seat done named missed call go rs r.receiver
+                rooted
                 at ls seated args flat seeks.0 is writes v did.0)
             by (Err e) (inl memory) =
                 rw (memory.1, memory.2, memory.3) (performs_memory e memory.0)
@@ -227,7 +230,8 @@ module _ {H : Type 0} (law : Law H) (lawful : IsLawful law) (m : Setup H) (own :
                 (record n { passed = n.passed + 1 + 1 + 1 })
                 (m.law.call_after host seeks.0.key r.receiver (trees_in args))
                 (placed_fault r.pos did.0 (may_answer did.0 (may did.0 did.1))) did.2
-                (hears_fault m k f seat done named missed call go rs r.receiver rooted at ls seated args flat seeks.0
+                (hears_fault m k f seat done named missed call go rs r.receiver rooted at ls
+                seated args flat seeks.0
                 is writes did.0 did.1))
 
       -- it was called, and asks for a call first
@@ -264,7 +268,8 @@ module _ {H : Type 0} (law : Law H) (lawful : IsLawful law) (m : Setup H) (own :
               λ place. at_step m.program k r.step r.pos (f place),
               λ place. sym did.3,
               rw (did.1, did.4, has did.2)
-                  (hears_asked m k f seat done named missed call go rs r.receiver rooted at ls seated args flat
+                  (hears_asked m k f seat done named missed call go rs r.receiver rooted at ls seated args
+                  flat
                   seeks.0 is writes native.asked did.0),
             )
 

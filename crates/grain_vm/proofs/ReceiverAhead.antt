@@ -26,10 +26,13 @@ pub is_receiver : {H : Type 0} (m : Setup H) (a b : Moment H) (x : Turn) (d : De
 is_receiver m a b x d count next is did = subst (λ (y : Turn). StepsHere m a (Ok y) b) is did
 
 -- it may call a function
-calls : (d : Destination) (count next : ℕ) → IsCall (op_on d count) next
-calls destination.Nowhere count next = record { leads = refl; gives = refl; keeps = refl }
-calls (destination.Slot slot) count next = record { leads = refl; gives = refl; keeps = refl }
-calls destination.This count next = record { leads = refl; gives = refl; keeps = refl }
+calls : (p : View) (d : Destination) (count next : ℕ) → IsCall p (op_on d count) next
+calls p destination.Nowhere count next =
+    record { leads = refl; gives = refl; holds = refl; keeps = refl }
+calls p (destination.Slot slot) count next =
+    record { leads = refl; gives = refl; holds = refl; keeps = refl }
+calls p destination.This count next =
+    record { leads = refl; gives = refl; holds = refl; keeps = refl }
 
 -- it takes and gives what `call_fn_ptr` does
 pub ready_as : {H : Type 0} (m : Setup H) (a : Moment H) (d : Destination) (count next : ℕ) →
@@ -69,6 +72,6 @@ pub receiver_stepped : {H : Type 0} (law : Law H) (p : View) (engine : Engine) (
     PerformsBound (setup law p engine) b (op_on d count) next r c → Stepped (setup law p engine) a r c
 receiver_stepped {H = H} law p engine a b c x d count next r runs is did done =
     let here = is_receiver (setup law p engine) a b x d count next is did in
-    arm_bound refl (calls d count next).keeps here.0 runs
+    arm_bound refl (calls p d count next).keeps (calls p d count next).holds here.0 runs
     (subst (λ (k : Moment H). PerformsBound (setup law p engine) k (op_on d count) next r c) here.1
     done)

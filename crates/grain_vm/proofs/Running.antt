@@ -183,8 +183,10 @@ module _ {H : Type 0} {m : Setup H} {a b c : Moment H} (so_far : RunsTo m a b) w
       (
         did.stays.0,
         did.stays.1,
-        rw (sym (did.kept.chunk ∙ so_far.chunk)) did.stays.2,
-        rw (sym (did.kept.base ∙ so_far.base)) did.stays.3,
+        did.stays.2,
+        did.stays.3,
+        rw (sym (did.kept.chunk ∙ so_far.chunk)) did.stays.4,
+        rw (sym (did.kept.base ∙ so_far.base)) did.stays.5,
       ),
     )
 

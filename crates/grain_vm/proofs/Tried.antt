@@ -5,7 +5,8 @@ use Rattle.grain_program.specs.declared.code.instruction_set.Op.{Op}
 use Rattle.grain_vm.specs.declared.attempts.Attempt.{Attempt}
 use Rattle.grain_vm.specs.declared.attempts.Attempt.TheVariants as attempt
 use Rattle.grain_program.specs.declared.code.effects.Handling.TheVariants as handling
-use Rattle.grain_program.specs.Effects.{handling_of}
+use Rattle.grain_program.specs.declared.code.effects.Looping.TheVariants as looping
+use Rattle.grain_program.specs.Effects.{handling_of, looping_of}
 use Rattle.grain_program.specs.Shapes.{TryHandler}
 use Rattle.grain_program.specs.laws.TypedAt.{IsTypedAt, Verified}
 use Rattle.grain_program.specs.Decoding.{op_at}
@@ -44,8 +45,8 @@ attempted law p engine f f' s s' n n' false does undone calls = (undone, calls)
 module _ {H : Type 0} (law : Law H) (p : View) (engine : Engine) (f : Activation) (s : Run H)
     (said o : Op) (width depth : ℕ) (is : said ≡ o) (deep : depth ≡ length s.stacks.operands)
     (runs : Runs p f s)
-    (seen : (hs : List TryHandler) → IsTypedAt p f.chunk f.address depth hs →
-    Verified p f.chunk f.address depth hs said width) where
+    (seen : (cursors : ℕ) (hs : List TryHandler) → IsTypedAt p f.chunk f.address depth cursors hs →
+    Verified p f.chunk f.address depth cursors hs said width) where
   -- it calls no function
   no_call : op_at p.code f.address ≡ Some (said, width) → IsNoCall o → CallsNothing p f
   no_call read other q w at =
@@ -53,15 +54,15 @@ module _ {H : Type 0} (law : Law H) (p : View) (engine : Engine) (f : Activation
       subst IsNoCall (sym is ∙ ap (λ (r : Option (Op × ℕ)). (or_return r).0) same) other
 
   module _ (read : op_at p.code f.address ≡ Some (said, width))
-      (keeps : handling_of o ≡ handling.Keep) (n : StepsView) (f' : Activation) (s' : Run H)
-      (n' : StepsView) where
+      (holds : looping_of o ≡ looping.Keep) (keeps : handling_of o ≡ handling.Keep)
+      (n : StepsView) (f' : Activation) (s' : Run H) (n' : StepsView) where
     does_step : (host host' : H) {r : Result Progress OutOfMemory} →
         Performs (setup law p engine) (moment f s n host) o (f.address + width) r
         (moment f' s' n' host') →
         Stepped (setup law p engine) (moment f s n host) r (moment f' s' n' host')
     does_step host host' does =
-        stepped law p engine f s said o width depth is deep runs seen read keeps n f' s' n' host
-        host' does
+        stepped law p engine f s said o width depth is deep runs seen read holds keeps n f' s' n'
+        host host' does
 
     -- the instruction was tried, and it is no call
     pub tried_out : (b : Bool) (a : Attempt) → a ≡ attempt_of b →
@@ -87,13 +88,14 @@ module _ {H : Type 0} (law : Law H) (p : View) (engine : Engine) (f : Activation
 
   -- an instruction was tried, perhaps with the one after it, and it is no call
   pub tried_on : (read : op_at p.code f.address ≡ Some (said, width))
-      (keeps : handling_of o ≡ handling.Keep) (n : StepsView) (f' : Activation)
-      (s' : Run H) (n' : StepsView) (b : Bool) (a : Attempt) → a ≡ attempt_of b →
+      (holds : looping_of o ≡ looping.Keep) (keeps : handling_of o ≡ handling.Keep)
+      (n : StepsView) (f' : Activation) (s' : Run H) (n' : StepsView) (b : Bool) (a : Attempt) →
+      a ≡ attempt_of b →
       OnTrue b ((host : H) → PerformsOn (setup law p engine) (moment f s n host) o
       (f.address + width) (moment f' s' n' host)) →
       OnFalse b (Unchanged f s n f' s' n') → IsNoCall o →
       Attempted (setup law p engine) f s n f' s' n' a
-  tried_on read keeps n f' s' n' b a e does undone other =
+  tried_on read holds keeps n f' s' n' b a e does undone other =
       let calls : CallsNothing p f = no_call read other in
       rw e (attempted law p engine f f' s s' n n' b (tried b does (λ d host. on host (d host)))
       undone calls) where
@@ -102,7 +104,7 @@ module _ {H : Type 0} (law : Law H) (p : View) (engine : Engine) (f : Activation
             (moment f' s' n' host) →
             Stepped (setup law p engine) (moment f s n host) (Ok progress.Continues)
             (moment f' s' n' host)
-        on host (inl does) = does_step read keeps n f' s' n' host host does
+        on host (inl does) = does_step read holds keeps n f' s' n' host host does
         on host (inr two) =
             both law p engine f two.frame f' s two.run s' n two.counts n' host
-            (does_step read keeps n two.frame two.run two.counts host host two.first) two.second
+            (does_step read holds keeps n two.frame two.run two.counts host host two.first) two.second

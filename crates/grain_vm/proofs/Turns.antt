@@ -104,7 +104,8 @@ module _ {H : Type 0} {m : Setup H} where
 -- the frame runs on
 pub next_runs : {H : Type 0} (p : View) (f f' : Activation) (s s' : Run H) → Runs p f s →
     KeepsFrame f s f' s' →
-    IsTypedAt p f'.chunk f'.address (length s'.stacks.operands) (tries_in s'.stacks.handlers) →
+    IsTypedAt p f'.chunk f'.address (length s'.stacks.operands) (length s'.stacks.cursors)
+    (tries_in s'.stacks.handlers) →
     Above f'.base s'.stacks.handlers → Runs p f' s'
 next_runs p f f' s s' runs kept typed above = record {
   inside = omega (arith, kept.base, kept.scope);

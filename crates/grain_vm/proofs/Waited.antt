@@ -59,9 +59,11 @@ beside_is scope x s n host scopes this =
     ∙ ap (λ (q : Option Held). beside s.scope q s n host) this
 
 pub same_frame : {H : Type 0} (f : Activation) (s s' : Run H) →
-    s'.stacks.operands ≡ s.stacks.operands → s'.stacks.handlers ≡ s.stacks.handlers →
+    s'.stacks.operands ≡ s.stacks.operands → s'.stacks.cursors ≡ s.stacks.cursors →
+    s'.stacks.totals ≡ s.stacks.totals → s'.stacks.handlers ≡ s.stacks.handlers →
     ◌≡◌ {A = Option Place → Frame} (frame_in f s) (frame_in f s')
-same_frame f s s' operands handlers = fun_ext (λ place. rw (operands, handlers) refl)
+same_frame f s s' operands cursors totals handlers =
+    fun_ext (λ place. rw (operands, cursors, totals, handlers) refl)
 
 -- the state of the code, where a native has what the instruction writes, or nothing
 pub state_here : {H : Type 0} (s : Run H) (n : StepsView) (host : H) (r : Rest) (l : Loan) →

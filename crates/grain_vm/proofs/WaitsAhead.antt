@@ -3,8 +3,9 @@ use Rattle.std.proofs.Common.{◌≡◌, ℕ, List, false, Result, Ok, Err, refl
 use Rattle.grain_value.specs.declared.memory.OutOfMemory.{OutOfMemory}
 use Rattle.grain_value.specs.declared.values.Held.{Held}
 use Rattle.grain_program.specs.View.{View}
-use Rattle.grain_program.specs.Effects.{gives_of, handling_of, leads_of, takes_of}
+use Rattle.grain_program.specs.Effects.{gives_of, handling_of, leads_of, looping_of, takes_of}
 use Rattle.grain_program.specs.declared.code.effects.Handling.TheVariants as handling
+use Rattle.grain_program.specs.declared.code.effects.Looping.TheVariants as looping
 use Rattle.grain_program.specs.declared.code.instruction_set.Op.{Op}
 use Rattle.grain_host.specs.Law.{Law}
 use Rattle.grain_global.specs.declared.engines.Engine.{Engine}
@@ -25,19 +26,20 @@ use Rattle.grain_vm.proofs.WaitsOn.{led_back, waited}
 
 -- it was done, or it waits, unless memory ran out
 pub turned : {H : Type 0} {law : Law H} {p : View} {engine : Engine} {a b : Moment H} {o : Op}
-    {next : ℕ} → handling_of o ≡ handling.Keep → StandsAt p a.frame a.run o next →
-    Runs p a.frame a.run → (r : Result Performed OutOfMemory) (x : Result Turn OutOfMemory) →
+    {next : ℕ} → looping_of o ≡ looping.Keep → handling_of o ≡ handling.Keep →
+    StandsAt p a.frame a.run o next → Runs p a.frame a.run →
+    (r : Result Performed OutOfMemory) (x : Result Turn OutOfMemory) →
     x ≡ turn_of r → PerformsOrWaits (setup law p engine) a o next r b →
     StepsHere (setup law p engine) a x b
-turned {H = H} {law} {p} {engine} {a} {b} {o} {next} keeps at runs r x is does =
+turned {H = H} {law} {p} {engine} {a} {b} {o} {next} holds keeps at runs r x is does =
     subst (λ (y : Result Turn OutOfMemory). StepsHere (setup law p engine) a y b) (sym is)
     (by r does) where
       by : (r : Result Performed OutOfMemory) → PerformsOrWaits (setup law p engine) a o next r b →
           StepsHere (setup law p engine) a (turn_of r) b
       by (Ok (performed.Leads y)) does =
-          arm_bound {o = o} refl keeps at runs (led_back (Ok y) does)
-      by (Ok (performed.Waits w)) does = (o, next, keeps, at, does)
-      by (Err e) does = arm_bound {o = o} refl keeps at runs (led_back (Err e) does)
+          arm_bound {o = o} refl keeps holds at runs (led_back (Ok y) does)
+      by (Ok (performed.Waits w)) does = (o, next, holds, keeps, at, does)
+      by (Err e) does = arm_bound {o = o} refl keeps holds at runs (led_back (Err e) does)
 
 -- what came of it is that it waits
 module _ {H : Type 0} (law : Law H) (p : View) (engine : Engine) (a b : Moment H) (x : Turn)
@@ -56,6 +58,6 @@ module _ {H : Type 0} (law : Law H) (p : View) (engine : Engine) (a b : Moment H
   waits_stepped {c} {r} runs goes =
       let o = it_waits.0 in
       let next = it_waits.1 in
-      let does = it_waits.4 in
-      arm_bound {o = o} refl it_waits.2 it_waits.3 runs (waited does
-      (goes does.held (takes_of p o) (gives_of o) (leads_of o next) does.plain does.lands.0))
+      let does = it_waits.5 in
+      arm_bound {o = o} refl it_waits.3 it_waits.2 it_waits.4 runs (waited does
+      (goes does.held (takes_of p o) (gives_of o) (leads_of p o next) does.plain does.lands.0))

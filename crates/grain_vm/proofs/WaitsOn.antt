@@ -45,40 +45,51 @@ progresses_from engine s t u f g h later is (inr a) = inr (
 continues_from : {H : Type 0} (engine : Engine) (s t u : Run H) (f g h : Activation) (ts : List ℕ)
     (takes gives : ℕ) (hs : List Handler) (r : Result Progress OutOfMemory) →
     t.stacks.operands ≡ s.stacks.operands → t.stacks.handlers ≡ hs →
-    t.stacks.handlers ≡ s.stacks.handlers → s.count ≤ t.count → g ≡ f →
+    t.stacks.handlers ≡ s.stacks.handlers → t.stacks.cursors ≡ s.stacks.cursors →
+    s.count ≤ t.count → g ≡ f →
     ContinuesAt engine t g u h ts takes gives t.stacks.handlers r →
     ContinuesAt engine s f u h ts takes gives hs r
-continues_from engine s t u f g h ts takes gives hs (Ok progress.Continues) ops has handlers later
-    is lands = (
+continues_from engine s t u f g h ts takes gives hs (Ok progress.Continues) ops has handlers
+    cursors later is lands = (
       lands.0,
       omega (arith, lands.1, ap (λ (q : List Held). length q) ops),
       lands.2 ∙ has,
       progresses_from engine s t u f g h later is lands.3,
+      lands.4 ∙ cursors,
     )
-continues_from engine s t u f g h ts takes gives hs (Ok progress.Returned) ops has handlers later
-    is lands = tt
-continues_from engine s t u f g h ts takes gives hs (Ok progress.Failed) ops has handlers later is
-    lands = (omega (arith, lands.0, ap (λ (q : List Held). length q) ops), lands.1 ∙ handlers)
-continues_from engine s t u f g h ts takes gives hs (Err e) ops has handlers later is lands = tt
+continues_from engine s t u f g h ts takes gives hs (Ok progress.Returned) ops has handlers
+    cursors later is lands = tt
+continues_from engine s t u f g h ts takes gives hs (Ok progress.Failed) ops has handlers
+    cursors later is lands = (
+      omega (arith, lands.0, ap (λ (q : List Held). length q) ops),
+      lands.1 ∙ handlers,
+      lands.2 ∙ cursors,
+    )
+continues_from engine s t u f g h ts takes gives hs (Err e) ops has handlers cursors later is lands =
+    tt
 
 lands_from : {H : Type 0} (m : Setup H) (a b c : Moment H) (ts : List ℕ) (takes gives : ℕ)
     (hs : List Handler) (r : Result Performed OutOfMemory) →
     b.run.stacks.operands ≡ a.run.stacks.operands → b.run.stacks.handlers ≡ hs →
-    b.run.stacks.handlers ≡ a.run.stacks.handlers → a.run.count ≤ b.run.count → b.frame ≡ a.frame →
+    b.run.stacks.handlers ≡ a.run.stacks.handlers → b.run.stacks.cursors ≡ a.run.stacks.cursors →
+    a.run.count ≤ b.run.count → b.frame ≡ a.frame →
     LandsOrWaits m b c ts takes gives b.run.stacks.handlers r → LandsOrWaits m a c ts takes gives hs r
-lands_from m a b c ts takes gives hs (Ok (performed.Leads p)) ops has handlers later is lands =
+lands_from m a b c ts takes gives hs (Ok (performed.Leads p)) ops has handlers cursors later is
+    lands =
     continues_from m.engine a.run b.run c.run a.frame b.frame c.frame ts takes gives hs (Ok p) ops
-    has handlers later is lands
-lands_from m a b c ts takes gives hs (Ok (performed.Waits w)) ops has handlers later is lands = (
-  lands.0,
-  lands.1,
-  lands.2,
-  lands.3 ∙ ops,
-  lands.4 ∙ has,
-  lands.5 ∙ handlers,
-  lands.6 ∙ is,
-)
-lands_from m a b c ts takes gives hs (Err e) ops has handlers later is lands = tt
+    has handlers cursors later is lands
+lands_from m a b c ts takes gives hs (Ok (performed.Waits w)) ops has handlers cursors later is
+    lands = (
+      lands.0,
+      lands.1,
+      lands.2,
+      lands.3 ∙ ops,
+      lands.4 ∙ has,
+      lands.5 ∙ handlers,
+      lands.6 ∙ is,
+      lands.7 ∙ cursors,
+    )
+lands_from m a b c ts takes gives hs (Err e) ops has handlers cursors later is lands = tt
 
 -- ---- an instruction that waits no more
 
@@ -129,7 +140,7 @@ waited {m = m} {a} {b} {c} {ts = ts} {takes} {gives} {hs} {r = r} does then = re
   same = compose does.same then.same tt;
   kept = kept_on a.frame b.frame c.frame a.run b.run c.run does.kept then.kept;
   lands = continues_from m.engine a.run b.run c.run a.frame b.frame c.frame ts takes gives hs r
-      does.lands.3 does.lands.4 does.lands.5 does.kept.later does.lands.6 then.lands;
+      does.lands.3 does.lands.4 does.lands.5 does.lands.7 does.kept.later does.lands.6 then.lands;
   before = then.before ∙ does.before;
 }
 
@@ -161,7 +172,7 @@ module _ {H : Type 0} {m : Setup H} (b : Moment H) (w : Waiting) (q : Position) 
       subst (λ (g : Option Place → Frame). Simulates m (abstraction b.run b.counts b.host) (asks_so h)
       (is_want o) (abstraction s' n' host')
       (λ m place v. rest_of h w.rest g m place (outcome_of o) v))
-      (same_frame b.frame b.run s' over.operands over.handlers) third
+      (same_frame b.frame b.run s' over.operands over.cursors over.totals over.handlers) third
 
   heard_out : (h : Held) → is_want o ≡ true →
       Simulates m (abstraction b.run b.counts b.host) (asks_so h) true (abstraction s' n' host')
@@ -226,8 +237,8 @@ module _ {H : Type 0} {m : Setup H} (b : Moment H) (w : Waiting) (q : Position) 
               (kept_over b.frame b.run s' w.lent inside over) next.kept);
           lands = lands_from m a (moment b.frame s' n' host') c ts takes gives hs r
               (over.operands ∙ so.lands.3) (over.handlers ∙ so.lands.4)
-              (over.handlers ∙ so.lands.5) (omega (arith, so.kept.later, over.later)) so.lands.6
-              next.lands;
+              (over.handlers ∙ so.lands.5) (over.cursors ∙ so.lands.7)
+              (omega (arith, so.kept.later, over.later)) so.lands.6 next.lands;
           before = next.before ∙ (before ∙ so.before);
         }
 
@@ -269,7 +280,7 @@ waits_first m a w waits none = record {
       this = (refl, refl);
       later = omega arith;
     };
-    lands = (leads, waits.lends, waits.kept, refl, refl, refl, refl);
+    lands = (leads, waits.lends, waits.kept, refl, refl, refl, refl, refl);
     before = refl;
   };
 }

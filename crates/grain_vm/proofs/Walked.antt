@@ -46,7 +46,8 @@ module _ {H : Type 0} (m : Setup H) (k next : ℕ) (g : Option Place → Frame) 
       ∙ ap (λ (v : Dynamic). record x { value = v }) (value_of-tree x.value)
 
   -- it is over
-  pub over_added : (missed : Option (List Fault)) (n : Setup H) (o : Walked) (x : Held) (place : Option Place) (w : World H) →
+  pub over_added : (missed : Option (List Fault)) (n : Setup H) (o : Walked) (x : Held) (place : Option Place)
+      (w : World H) →
       x.read_only ≡ h.read_only →
       walk_seated k g (Added h) after missed (Done o) (x ∷ []) n place w
       ≡ chain_over n k next (g place) o (back x w)
@@ -73,7 +74,8 @@ module _ {H : Type 0} (k next : ℕ) (g : Option Place → Frame) (h : Held) (b 
       (sym (append-nil (put w.roots p h.value) ∙ put-find w.roots p h there))
 
   -- It is over, and the code's `this` is what became of it.
-  pub over_this : (missed : Option (List Fault)) (m : Setup H) (o : Walked) (x : Held) (old new : LocalState H) →
+  pub over_this : (missed : Option (List Fault)) (m : Setup H) (o : Walked) (x : Held)
+      (old new : LocalState H) →
       old.this ≡ Some h → new ≡ record old { this = Some x } → x.read_only ≡ h.read_only →
       Simulates m old
       (walk_seated k g (AtThis h) (after_chain k next home.This b g) missed (Done o) (x ∷ [])) false new

@@ -132,6 +132,8 @@ pub record NativeOver {H : Type 0} (l : Loan) (s s' : Run H) : Type 0 where
   pub noted : s'.stacks.noted ≡ s.stacks.noted
   pub outer : s'.stacks.outer ≡ s.stacks.outer
   pub operands : s'.stacks.operands ≡ s.stacks.operands
+  pub cursors : s'.stacks.cursors ≡ s.stacks.cursors
+  pub totals : s'.stacks.totals ≡ s.stacks.totals
   pub handlers : s'.stacks.handlers ≡ s.stacks.handlers
   pub back : IsBackAt s' l
   pub later : s.count ≤ s'.count

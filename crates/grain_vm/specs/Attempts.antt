@@ -1,18 +1,23 @@
 -- What came of an instruction that the loop tried first.
-use Rattle.std.specs.Prelude.{◌≡◌, ℕ, Bool, true, false, Ok, Some}
+use Rattle.std.specs.Prelude.{◌≡◌, ℕ, Bool, true, false, Ok, Some, None}
 use Rattle.grain_program.specs.Decoding.{op_at}
 use Rattle.grain_program.specs.declared.code.instruction_set.Op.{Op}
 use Rattle.grain_program.specs.declared.code.instruction_set.Op.TheVariants as op
+use Rattle.grain_program.specs.Lookups.{Called, function_of}
 use Rattle.grain_program.specs.View.{View}
 use Rattle.grain_means.specs.Worlds.{Setup}
 use Rattle.grain_global.specs.StepsView.{StepsView}
 use Rattle.grain_frame.specs.declared.activations.Activation.{Activation}
 use Rattle.grain_frame.specs.declared.runs.Run.{Run}
 use Rattle.grain_frame.specs.declared.runs.Progress.TheVariants as progress
+use Rattle.grain_vm.specs.declared.attempts.Apart.{Apart}
+use Rattle.grain_vm.specs.declared.attempts.Apart.TheVariants as apart
 use Rattle.grain_vm.specs.declared.attempts.Attempt.{Attempt}
 use Rattle.grain_vm.specs.declared.attempts.Attempt.TheVariants as attempt
 use Rattle.grain_vm.specs.declared.attempts.Pending.{Pending}
 use Rattle.grain_vm.specs.declared.attempts.Pending.TheVariants as pending
+use Rattle.grain_vm.specs.declared.attempts.Way.{Way}
+use Rattle.grain_vm.specs.declared.attempts.Way.TheVariants as way
 use Rattle.grain_frame.specs.Abstraction.{moment, IsNoCall, Stepped, StandsAt}
 
 -- what holds if a try did what it tried, and what holds if it did not
@@ -37,6 +42,26 @@ StandsAtJump program f s target = (next : ℕ) × StandsAt program f s (op.Jump 
 abbrev pub CallsNothing : View → Activation → Type 0
 CallsNothing program f =
     (o : Op) (width : ℕ) → op_at program.code f.address ≡ Some (o, width) → IsNoCall o
+
+-- it is no call of a function by its name, and not `call_fn_ptr`
+abbrev pub CallsNoFunction : View → Activation → Type 0
+CallsNoFunction program f =
+    (o : Op) (width : ℕ) → op_at program.code f.address ≡ Some (o, width) →
+    ((name count : ℕ) → o ≡ op.Call name count → function_of program name count ≡ None)
+    × ((count : ℕ) → o ≡ op.CallFnPtr count → ⊥)
+
+-- what is known of an instruction that is done apart from the loop
+abbrev pub StandsApart : {H : Type 0} → View → Activation → Run H → Apart → Type 0
+StandsApart program f s (apart.Pointer count next) =
+    StandsAt program f s (op.CallFnPtr count) next
+StandsApart program f s apart.Other = CallsNoFunction program f
+
+-- what is known of the way in which the instruction is done
+abbrev pub IsWay : {H : Type 0} → View → Activation → Run H → Way → Type 0
+IsWay program f s (way.Function number next) =
+    (name : ℕ) × (count : ℕ) × StandsAt program f s (op.Call name count) next
+    × (Some number ≡ function_of program name count) × Called program name count number
+IsWay program f s (way.Apart a) = StandsApart program f s a
 
 -- what is known of an instruction that is still to be done
 abbrev pub IsPending : {H : Type 0} → View → Activation → Run H → Pending → Type 0

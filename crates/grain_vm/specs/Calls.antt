@@ -71,6 +71,8 @@ pub record CallEntered {H : Type 0} (engine : Engine) (g : Function) (s s' : Run
       ≡ record (innermost s.stacks) { operands = under (length g.params) s.stacks.operands }
       ∷ s.stacks.outer
   pub operands : s'.stacks.operands ≡ []
+  pub cursors : s'.stacks.cursors ≡ []
+  pub totals : s'.stacks.totals ≡ []
   pub handlers : s'.stacks.handlers ≡ []
   pub room : s'.stacks.room ≡ g.chunk.max_stack
   pub unnoted : s'.stacks.noted ≡ false
@@ -78,7 +80,7 @@ pub record CallEntered {H : Type 0} (engine : Engine) (g : Function) (s s' : Run
   pub allowed : s.count < engine.limits.operations
 
 -- a fault is raised before the call has begun, or memory is out: the scopes, the level, the outer
--- frames, the operands and the handlers are as they were
+-- frames, the operands, the cursors, the totals and the handlers are as they were
 pub record CallRefused {H : Type 0} (s s' : Run H) : Type 0 where
   pub scope : s'.scope ≡ s.scope
   pub saved : s'.saved ≡ s.saved
@@ -88,6 +90,8 @@ pub record CallRefused {H : Type 0} (s s' : Run H) : Type 0 where
   pub noted : s'.stacks.noted ≡ s.stacks.noted
   pub outer : s'.stacks.outer ≡ s.stacks.outer
   pub operands : s'.stacks.operands ≡ s.stacks.operands
+  pub cursors : s'.stacks.cursors ≡ s.stacks.cursors
+  pub totals : s'.stacks.totals ≡ s.stacks.totals
   pub handlers : s'.stacks.handlers ≡ s.stacks.handlers
 
 -- the frame of a function whose operation is charged is entered, or only the fault of
@@ -97,8 +101,8 @@ FrameEntered g s s' (Ok true) = (s'.saved ≡ s.saved ++ s.scope ∷ []) × (s'.
     × (s'.stacks.outer
     ≡ record (innermost s.stacks) { operands = under (length g.params) s.stacks.operands }
     ∷ s.stacks.outer)
-    × (s'.stacks.operands ≡ []) × (s'.stacks.handlers ≡ [])
-    × (s'.stacks.room ≡ g.chunk.max_stack)
+    × (s'.stacks.operands ≡ []) × (s'.stacks.cursors ≡ []) × (s'.stacks.totals ≡ [])
+    × (s'.stacks.handlers ≡ []) × (s'.stacks.room ≡ g.chunk.max_stack)
     × (s'.stacks.noted ≡ false) × (s'.count ≡ s.count) × (s'.receivers ≡ s.receivers)
 FrameEntered g s s' (Ok false) = CallRefused s s' × (s'.count ≡ s.count)
 FrameEntered g s s' (Err e) = CallRefused s s' × (s'.count ≡ s.count)

@@ -38,8 +38,8 @@ with_found (Some h) hs = h ∷ hs
 
 -- wherever the old handlers fit, in a typing and above a base, the new ones do too
 pub record StandsFor (old new : List Handler) : Type 0 where
-  pub covered : (p : View) (c : Chunk) (depth : ℕ) → IsCovered p c depth (tries_in old) →
-      IsCovered p c depth (tries_in new)
+  pub covered : (p : View) (c : Chunk) (depth cursors : ℕ) →
+      IsCovered p c depth cursors (tries_in old) → IsCovered p c depth cursors (tries_in new)
   pub above : (base : ℕ) → Above base old → Above base new
 
 -- what is to be done after a handler caught: the frame goes on at the target, or a fault leaves it
@@ -67,13 +67,14 @@ caught_or_left (Ok (Some target)) x f m place w = Go (InFrame (resumed (f place)
 caught_or_left (Ok None) x f m place w = End (Failed (problem_of x)) w
 caught_or_left (Err e) x f m place w = End (Failed NoMemory) w
 
--- After a handler caught: if the frame goes on, there are as many operands as when the handler was
--- pushed, the handler is the innermost and has caught a fault, the scope has no fewer entries than at
--- the push, and an operation was charged. The outer frames are as they were.
+-- After a handler caught: if the frame goes on, there are as many operands and cursors as when the
+-- handler was pushed, the handler is the innermost and has caught a fault, the scope has no fewer
+-- entries than at the push, and an operation was charged. The outer frames are as they were.
 abbrev pub CaughtBy : {H : Type 0} → Engine → Handler → Run H → Run H → Result Bool OutOfMemory →
     Type 0
 CaughtBy engine h s s' (Ok true) = KeepsRun s s' × (s'.stacks.noted ≡ s.stacks.noted) ×
-    (length s'.stacks.operands ≡ h.operands) × (h.scope ≤ length s'.scope) ×
+    (length s'.stacks.operands ≡ h.operands) × (length s'.stacks.cursors ≡ h.cursors) ×
+    (h.scope ≤ length s'.scope) ×
     ((x : EvalAltResult) × (s'.stacks.handlers ≡ record h { caught = Some x } ∷ s.stacks.handlers))
     × (s.count < s'.count) × (s.count < engine.limits.operations)
 CaughtBy engine h s s' (Ok false) = KeepsRun s s' × (s'.stacks.noted ≡ s.stacks.noted)
@@ -91,8 +92,8 @@ Caught engine s s' (Err e) = KeepsRun s s'
 abbrev pub CaughtAt : {H : Type 0} → View → Activation → Run H → Result (Option ℕ) OutOfMemory →
     Type 0
 CaughtAt p f s (Ok (Some target)) = (f.base ≤ length s.scope) ×
-    IsTypedAt p f.chunk target (length s.stacks.operands) (tries_in s.stacks.handlers) ×
-    Above f.base s.stacks.handlers
+    IsTypedAt p f.chunk target (length s.stacks.operands) (length s.stacks.cursors)
+    (tries_in s.stacks.handlers) × Above f.base s.stacks.handlers
 CaughtAt p f s (Ok None) = Unit {0}
 CaughtAt p f s (Err e) = Unit {0}
 

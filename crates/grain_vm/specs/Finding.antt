@@ -1,8 +1,10 @@
 -- What an instruction that may call a function does before one is called.
-use Rattle.std.specs.Prelude.{ℕ, ◌≡◌, ◌<◌, ◌+◌, ◌-◌, ◌∷◌, [], length, slice_get, false, Some, Result, Ok, Err}
+use Rattle.std.specs.Prelude.{ℕ, ◌≡◌, ◌<◌, ◌+◌, ◌-◌, ◌∷◌, [], length, slice_get, Bool, true, false, Option, Some, None, Result, Ok, Err}
 use Rattle.grain_value.specs.declared.memory.OutOfMemory.{OutOfMemory}
-use Rattle.grain_program.specs.Effects.{takes_of, gives_of, leads_of, handling_of}
+use Rattle.grain_program.specs.Effects.{takes_of, gives_of, leads_of, looping_of, handling_of}
 use Rattle.grain_program.specs.declared.code.effects.Handling.TheVariants as handling
+use Rattle.grain_program.specs.declared.code.effects.Looping.TheVariants as looping
+use Rattle.grain_program.specs.View.{View}
 use Rattle.grain_program.specs.declared.code.functions.Function.{Function}
 use Rattle.grain_program.specs.declared.code.instruction_set.Op.{Op}
 use Rattle.grain_program.specs.declared.code.instruction_set.Op.TheVariants as op
@@ -54,11 +56,12 @@ Finds m a o next (Ok (found.Function number to)) b =
     (to ≡ next) × FindsFunction m a o next number b
 Finds m a o next (Err e) b = PerformsBound m a o next (Err e) b
 
--- an instruction that may call a function: it leads to the next one, gives one value and keeps the
--- handlers
-pub record IsCall (o : Op) (next : ℕ) : Type 0 where
-  pub leads : leads_of o next ≡ next ∷ []
+-- an instruction that may call a function: it leads to the next one, gives one value, and keeps the
+-- cursors and the handlers
+pub record IsCall (p : View) (o : Op) (next : ℕ) : Type 0 where
+  pub leads : leads_of p o next ≡ next ∷ []
   pub gives : gives_of o ≡ 1
+  pub holds : looping_of o ≡ looping.Keep
   pub keeps : handling_of o ≡ handling.Keep
 
 -- the same of the instruction at which the frame stands
@@ -66,7 +69,7 @@ abbrev pub FindsHere : {H : Type 0} → Setup H → Moment H → Result Found Ou
     Type 0
 FindsHere m a (Ok (found.Done p)) b = Stepped m a (Ok p) b
 FindsHere m a (Ok (found.Function number next)) b =
-    (o : Op) × StandsAt m.program a.frame a.run o next × IsCall o next
+    (o : Op) × StandsAt m.program a.frame a.run o next × IsCall m.program o next
     × FindsFunction m a o next number b
 FindsHere m a (Err e) b = Stepped m a (Err e) b
 
@@ -88,10 +91,32 @@ abbrev pub StepsHere : {H : Type 0} → Setup H → Moment H → Result Turn Out
     Moment H → Type 0
 StepsHere m a (Ok (turn.Done p)) b = Stepped m a (Ok p) b
 StepsHere m a (Ok (turn.Waits w)) b = (o : Op) × (next : ℕ)
-    × (handling_of o ≡ handling.Keep) × StandsAt m.program a.frame a.run o next
+    × (looping_of o ≡ looping.Keep) × (handling_of o ≡ handling.Keep)
+    × StandsAt m.program a.frame a.run o next
     × PerformsOrWaits m a o next (Ok (performed.Waits w)) b
 StepsHere m a (Ok (turn.Chain index next)) b =
     StandsAt m.program a.frame a.run (op.Chain index) next × (b ≡ a)
 StepsHere m a (Ok (turn.Receiver d count next)) b =
     StandsAt m.program a.frame a.run (op_on d count) next × (b ≡ a)
 StepsHere m a (Err e) b = Stepped m a (Err e) b
+
+-- the instruction calls nothing, walks along no place, and asks the host for no native
+abbrev pub is_plain : Op → Bool
+is_plain (op.Call name count) = false
+is_plain (op.CallFnPtr count) = false
+is_plain (op.Chain index) = false
+is_plain (op.CallFnPtrMethod count) = false
+is_plain (op.CallFnPtrOnLocal count slot) = false
+is_plain (op.CallFnPtrOnThis count) = false
+is_plain (op.CallOp name count token) = false
+is_plain (op.AssignLocalOp slot name k) = false
+is_plain (op.AssignThisOp k) = false
+is_plain o = true
+
+-- what came of the instruction at which the frame stands, where only a plain one is done
+abbrev pub StepsIfPlain : {H : Type 0} → Setup H → Moment H →
+    Result (Option Progress) OutOfMemory → Moment H → Type 0
+StepsIfPlain m a (Ok (Some p)) b = Stepped m a (Ok p) b
+StepsIfPlain m a (Ok None) b =
+    (b.frame ≡ a.frame) × (b.run ≡ a.run) × (b.counts ≡ a.counts) × (b.host ≡ a.host)
+StepsIfPlain m a (Err e) b = Stepped m a (Err e) b

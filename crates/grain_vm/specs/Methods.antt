@@ -133,6 +133,8 @@ pub record MethodEntered {H : Type 0} (engine : Engine) (g : Function) (x : Opti
   pub receivers : s'.receivers ≡ bound_with (s.level + 1) x s.receivers
   pub caller : s'.stacks.outer ≡ innermost s.stacks ∷ s.stacks.outer
   pub operands : s'.stacks.operands ≡ []
+  pub cursors : s'.stacks.cursors ≡ []
+  pub totals : s'.stacks.totals ≡ []
   pub handlers : s'.stacks.handlers ≡ []
   pub room : s'.stacks.room ≡ g.chunk.max_stack
   pub unnoted : s'.stacks.noted ≡ false
@@ -150,6 +152,8 @@ pub record MethodOver {H : Type 0} (s s' : Run H) : Type 0 where
   pub noted : s'.stacks.noted ≡ s.stacks.noted
   pub outer : s'.stacks.outer ≡ s.stacks.outer
   pub operands : s'.stacks.operands ≡ s.stacks.operands
+  pub cursors : s'.stacks.cursors ≡ s.stacks.cursors
+  pub totals : s'.stacks.totals ≡ s.stacks.totals
   pub handlers : s'.stacks.handlers ≡ s.stacks.handlers
   pub later : s.count ≤ s'.count
 

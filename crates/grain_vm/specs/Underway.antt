@@ -146,6 +146,8 @@ pub record UnderWay {H : Type 0} (p : View) (s : Run H) (k next : ℕ) (blamed :
   pub bound : BoundAway w.home s s'
   pub long : length s'.scope ≡ length s.scope
   pub operands : s'.stacks.operands ≡ under (chain_takes (chain_of p k)) s.stacks.operands
+  pub cursors : s'.stacks.cursors ≡ s.stacks.cursors
+  pub totals : s'.stacks.totals ≡ s.stacks.totals
   pub handlers : s'.stacks.handlers ≡ s.stacks.handlers
   pub room : s'.stacks.room ≡ s.stacks.room
   pub noted : s'.stacks.noted ≡ s.stacks.noted

@@ -6,7 +6,10 @@ ghost use Rattle.grain_value.specs.declared.values.Held.{Held};
 ghost use Rattle.grain_fault.specs.declared.faults.EvalAltResult.TheVariants as fault;
 ghost use Rattle.grain_means.specs.Rules.{call_function};
 ghost use Rattle.grain_chain.specs.Walking.{is_want};
-ghost use Rattle.grain_frame.specs.Abstraction.{ImplementsBound, frame_in, moment, setup_of};
+ghost use Rattle.grain_program.specs.Indices.{InPools};
+ghost use Rattle.grain_program.specs.Lookups.{function_of};
+ghost use Rattle.grain_frame.specs.Abstraction.{ImplementsBound, PerformsBound, Ready, frame_in, moment, setup_of};
+ghost use Rattle.grain_program.specs.declared.code.instruction_set.Op.TheVariants as op;
 ghost use Rattle.grain_frame.specs.Targets.{home_of};
 ghost use Rattle.grain_frame.specs.Waiting.{IsKept, LeadsTo, apart_of, asking, rest_of};
 ghost use Rattle.grain_frame.specs.declared.targets.Target.TheVariants as to;
@@ -78,40 +81,7 @@ fn is_out(outcome: &Result<Dynamic, EvalAltResult>) -> bool
     }
 }
 
-// `call` of a name that no function has: the native of that name, or the fault that an operand is a lent
-// cell. It is done on a copy of the frame, so that the loop can hold its own in registers.
-#[cycle(run)]
-#[inline(always)]
-pub(crate) fn call_native_by_name<H: Host, L: Ledger>(
-    run: &mut Run<H>,
-    context: Context<'_>,
-    host: &mut H,
-    steps: &mut Steps<L>,
-    frame: &mut Activation,
-    name: &Text,
-    count: usize,
-    next: usize,
-) -> Result<Progress, OutOfMemory>
-    requires inside { frame.old.base ≤ length run.old.scope }
-    requires operands { count ≤ length run.old.stacks.operands }
-    requires room { length run.old.stacks.operands - count < run.old.stacks.room }
-    requires ahead { frame.old.address < next }
-    requires none { NoneAbove run.old.level run.old.receivers }
-    ensures implements { ImplementsBound (setup_of H.law context.entry)
-        (moment frame.old run.old steps.old host.old)
-        (λ m place w. call_function m None name.now count (frame_in frame.old run.old place) next w)
-        (next ∷ []) count 1 run.old.stacks.handlers result
-        (moment frame.new run.new steps.new host.new) }
-{
-    let mut copy = *frame;
-    let progress = native_by_name(run, context, host, steps, &mut copy, name, count, next);
-    frame.address = copy.address;
-    frame.floor = copy.floor;
-    frame.slot = copy.slot;
-    progress
-}
-
-// The same on the frame itself.
+// A call of the native of a name, or the fault that an operand is a lent cell.
 #[cycle(run)]
 #[cold]
 #[inline(never)]
@@ -140,6 +110,34 @@ pub(crate) fn native_by_name<H: Host, L: Ledger>(
         Performed::Leads(progress) => Ok(progress),
         Performed::Waits(waiting) => wait_for_native(run, context, host, steps, frame, waiting),
     }
+}
+
+// `call` of a name that no function has: the native of that name is called on the last `count`
+// operands.
+#[cycle(run)]
+#[cold]
+#[inline(never)]
+pub(crate) fn call_native<H: Host, L: Ledger>(
+    run: &mut Run<H>,
+    context: Context<'_>,
+    host: &mut H,
+    steps: &mut Steps<L>,
+    frame: &mut Activation,
+    name: u16,
+    count: u8,
+    next: usize,
+) -> Result<Progress, OutOfMemory>
+    requires ready { Ready frame.old run.old (op.Call name count) next }
+    requires pools { InPools context.program.now (op.Call name count) }
+    requires missing { function_of context.program.now name count ≡ None }
+    requires none { NoneAbove run.old.level run.old.receivers }
+    ensures performs { PerformsBound (setup_of H.law context.entry)
+        (moment frame.old run.old steps.old host.old) (op.Call name count) next result
+        (moment frame.new run.new steps.new host.new) }
+{
+    let count = usize::from(count);
+    let name = context.program.name(u32::from(name));
+    native_by_name(run, context, host, steps, frame, name, count, next)
 }
 
 // Calls a native on a receiver, and goes on with it until it is over.

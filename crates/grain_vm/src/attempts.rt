@@ -2,7 +2,7 @@
 
 ghost use Rattle.std.specs.Prelude.{◌≡◌};
 ghost use Rattle.grain_frame.specs.Abstraction.{Runs, setup_of};
-ghost use Rattle.grain_vm.specs.Attempts.{Attempted, attempt_of, attempt_or};
+ghost use Rattle.grain_vm.specs.Attempts.{Attempted, IsPending, IsWay, attempt_of, attempt_or};
 
 use crate::quick::{quick_assign, quick_const, quick_jump, quick_jump_if, quick_local, quick_op};
 use grain_frame::{Activation, Context, Run};
@@ -34,6 +34,26 @@ pub enum Pending {
     /// the address `next`.
     Pointer { count: u8, next: usize },
     /// Any other: neither `call` nor `call_fn_ptr`.
+    Other,
+}
+
+/// How a pending instruction is done.
+#[derive(Clone, Copy, Debug, PartialEq, Eq)]
+pub enum Way {
+    /// It calls the function of this number on the last operands; afterwards the frame goes on at
+    /// the address `next`.
+    Function { number: usize, next: usize },
+    /// It is done apart from the loop.
+    Apart(Apart),
+}
+
+/// An instruction that is done apart from the loop.
+#[derive(Clone, Copy, Debug, PartialEq, Eq)]
+pub enum Apart {
+    /// It calls the pointer under the last `count` operands; afterwards the frame goes on at
+    /// the address `next`.
+    Pointer { count: u8, next: usize },
+    /// Any other, which is no call of a function by its name.
     Other,
 }
 
@@ -114,5 +134,60 @@ pub(crate) fn quick<H: Host, L: Ledger>(
             Attempt::Returned
         }
         (_, _) => Attempt::Pending(Pending::Other),
+    }
+}
+
+// How the pending instruction at which the frame stands is done.
+#[inline(always)]
+pub(crate) fn way_of<H: Host>(
+    run: &Run<H>,
+    context: Context<'_>,
+    frame: &Activation,
+    pending: Pending,
+) -> Way
+    requires pending { IsPending context.program.now frame.now run.now pending }
+    ensures { IsWay context.entry.program.now frame.now run.now result }
+{
+    // Only the contract names them.
+    let _run = run;
+    let _frame = frame;
+    match pending {
+        Pending::Call { name, count, next } => {
+            match context
+                .program
+                .function(u32::from(name), usize::from(count))
+            {
+                Some(number) => Way::Function { number, next },
+                None => Way::Apart(Apart::Other),
+            }
+        }
+        Pending::Pointer { count, next } => Way::Apart(Apart::Pointer { count, next }),
+        Pending::Other => Way::Apart(Apart::Other),
+    }
+}
+
+// What is pending of the instruction at which the frame stands.
+#[inline(always)]
+pub(crate) fn pending_at<H: Host>(run: &Run<H>, context: Context<'_>, frame: &Activation) -> Pending
+    requires runs { Runs context.program.now frame.now run.now }
+    ensures { IsPending context.entry.program.now frame.now run.now result }
+{
+    let address = frame.address;
+    let depth = run.stacks.height();
+    match context.program.fetch(frame.chunk, address, depth) {
+        (Op::Call(name, count), width) => {
+            Pending::Call {
+                name,
+                count,
+                next: address + width,
+            }
+        }
+        (Op::CallFnPtr(count), width) => {
+            Pending::Pointer {
+                count,
+                next: address + width,
+            }
+        }
+        (_, _) => Pending::Other,
     }
 }

@@ -92,13 +92,11 @@ fn function_entered<H: Host, L: Ledger>(
     ensures before { steps.new.before ≡ steps.old.before }
 {
     let Some(level) = deeper(run.level, context.engine.limits.levels) else {
-        let fault = EvalAltResult::ErrorStackOverflow(Position::NONE);
-        run.raise_at(context, steps, frame.address, fault);
+        run.stack_overflow(context, steps, frame.address);
         return Ok(false);
     };
     if function.params.len() > context.engine.limits.variables {
-        let fault = EvalAltResult::ErrorTooManyVariables(Position::NONE);
-        run.raise_at(context, steps, frame.address, fault);
+        run.too_many_variables(context, steps, frame.address);
         return Ok(false);
     }
     enter_frame(run, context, function)?;

@@ -1,7 +1,8 @@
 //! What a native asks for is called back: a function of the program, or another native.
 
-ghost use Rattle.std.specs.Prelude.{◌≡◌, ◌<◌, ◌-◌, Err, None, IfOk};
+ghost use Rattle.std.specs.Prelude.{◌≡◌, ◌<◌, ◌-◌, Err, None, IfOk, IfSome, if◌then◌else◌};
 ghost use Rattle.grain_fault.specs.declared.faults.EvalAltResult.TheVariants as fault;
+ghost use Rattle.grain_program.specs.Lookups.{CalledByText, function_by_text};
 ghost use Rattle.grain_means.specs.Worlds.{Setup};
 ghost use Rattle.grain_means.specs.Simulation.{StopPersists};
 ghost use Rattle.grain_chain.specs.Walking.{is_want};
@@ -14,9 +15,10 @@ ghost use Rattle.grain_vm.specs.Methods.{MethodOver, NoneAbove};
 use crate::asks::finish_native;
 use crate::calls::deeper;
 use crate::chains::is_want;
+use crate::curried::with_curried;
 use crate::driving::{perform_request, raise_race};
-use crate::method_runs::call_method;
-use crate::methods::{Needed, resolve_request, with_curried};
+use crate::method_runs::run_method;
+use crate::methods::{MethodCall, Needed};
 use grain_chain::{Request, What};
 use grain_fault::{EvalAltResult, Position};
 use grain_frame::{Context, Run};
@@ -27,6 +29,7 @@ use std::sync::ledger::Ledger;
 
 // What the host hears of a call that it asked for: the value as it is read, or the fault. A fault that the
 // host does not hear of is given apart.
+#[inline(always)]
 pub(crate) fn told<H: Host, L: Ledger>(
     run: &Run<H>,
     steps: &mut Steps<L>,
@@ -51,6 +54,7 @@ pub(crate) fn told<H: Host, L: Ledger>(
 }
 
 // The host hears of a fault if a script may catch it and the host may answer it.
+#[inline(never)]
 fn fault_told(fault: EvalAltResult) -> Result<Result<Dynamic, HostFault>, EvalAltResult>
     ensures { result ≡ told_fault fault }
 {
@@ -65,8 +69,7 @@ fn fault_told(fault: EvalAltResult) -> Result<Result<Dynamic, HostFault>, EvalAl
 
 // Calls what a pointer names that a native asks for: a function of the program, or else a native.
 #[cycle(run)]
-#[cold]
-#[inline(never)]
+#[inline(always)]
 pub(crate) fn call_back<H: Host, L: Ledger>(
     run: &mut Run<H>,
     context: Context<'_>,
@@ -87,7 +90,7 @@ pub(crate) fn call_back<H: Host, L: Ledger>(
         Err(OutOfMemory) => Err(EvalAltResult::Memory),
         Ok(needed) => match needed {
             Needed::Function(call) => {
-                let (outcome, _receiver) = call_method(run, context, host, steps, call);
+                let (outcome, _receiver) = run_method(run, context, host, steps, call);
                 outcome
             }
             Needed::Native(request) => native_back(run, context, host, steps, request),
@@ -96,6 +99,7 @@ pub(crate) fn call_back<H: Host, L: Ledger>(
 }
 
 // What a pointer names that a native asks for, on the pointer's values and then these.
+#[inline(always)]
 fn find_back<H: Host>(
     run: &Run<H>,
     context: Context<'_>,
@@ -105,27 +109,40 @@ fn find_back<H: Host>(
 ) -> Result<Needed, OutOfMemory>
     ensures { FindsBack context.entry.program.now context.entry.engine.now pos pointer values result }
 {
-    if context.engine.callbacks() {
-        let request = Request {
+    let count = pointer.curry().len() + values.len();
+    let found = function_back(context, pointer.fn_name(), count);
+    let Ok(arguments) = with_curried(run.alloc, pointer.curry(), values) else {
+        return Err(OutOfMemory);
+    };
+    match found {
+        Some(number) => Ok(Needed::Function(MethodCall {
+            number,
+            pos,
+            receiver: None,
+            arguments,
+        })),
+        None => Ok(Needed::Native(Request {
             step: 0,
             pos,
-            what: What::Pointer(pointer),
+            what: What::Native(pointer.name),
             receiver: None,
-            arguments: values,
-        };
-        return match resolve_request(run, context, request) {
-            Ok(needed) => Ok(needed),
-            Err(_) => Err(OutOfMemory),
-        };
+            arguments,
+        })),
     }
-    let all = with_curried(run.alloc, pointer.curry(), &values)?;
-    Ok(Needed::Native(Request {
-        step: 0,
-        pos,
-        what: What::Native(pointer.name),
-        receiver: None,
-        arguments: all,
-    }))
+}
+
+// The function of this name with `count` parameters, if natives may call functions.
+#[inline(always)]
+fn function_back(context: Context<'_>, name: &str, count: usize) -> Option<usize>
+    ensures exact { result ≡ (if context.entry.engine.now.callbacks
+        then function_by_text context.entry.program.now name.now count
+        else None) }
+    ensures called { IfSome result (CalledByText context.entry.program.now name.now count) }
+{
+    if !context.engine.callbacks() {
+        return None;
+    }
+    context.program.function_named(name, count)
 }
 
 // Calls a native that another native asks for: it costs an operation, and runs one level up.

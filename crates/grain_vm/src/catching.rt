@@ -1,11 +1,11 @@
 //! How a frame catches a fault.
 
-ghost use Rattle.std.specs.Prelude.{◌≡◌, ◌<◌, ◌≤◌, Option, length, IfOk, None, true, false};
+ghost use Rattle.std.specs.Prelude.{◌≡◌, ◌<◌, ◌≤◌, Option, length, take, IfOk, None, true, false};
 ghost use Rattle.grain_fault.specs.Problems.{problem_of};
 ghost use Rattle.grain_program.specs.TypedAt.{HasName};
 ghost use Rattle.grain_program.specs.View.{position_of};
 ghost use Rattle.grain_means.specs.Worlds.{Setup, Frame, Place, World, Act};
-ghost use Rattle.grain_means.specs.Rules.{throws_unit, thrown_anew, offered, offered_to, bind_caught, caught, leave_by_fault};
+ghost use Rattle.grain_means.specs.Rules.{throws_unit, thrown_anew, offered, offered_to, outermost, bind_caught, caught, leave_by_fault};
 ghost use Rattle.grain_means.specs.Simulation.{Simulates, SimulatesExactly};
 ghost use Rattle.grain_frame.specs.Abstraction.{abstraction, frame_in, handler_in, handlers_in, is_out, charge_continuation, CanCatch, setup_of};
 ghost use Rattle.grain_frame.specs.declared.activations.Activation.{Activation};
@@ -137,10 +137,10 @@ fn rethrow<H: Host>(run: &mut Run<H>, caught: EvalAltResult)
 }
 
 // Catches the fault, which was raised at the address, by a handler. First the trace is emptied. If
-// the scope is shorter than when the handler was pushed, that is a fault. Else the operands and the
-// scope are cut back to their lengths at the push, the handler's variable is bound, the handler is
-// pushed again with what it caught, and an operation is charged at its target. It says whether the
-// frame goes on there; if not, a fault is raised, which leaves the frame.
+// the scope is shorter than when the handler was pushed, that is a fault. Else the frame and the scope
+// are cut back to what there was at the push, the handler's variable is bound, the handler is pushed
+// again with what it caught, and an operation is charged at its target. It says whether the frame goes
+// on there; if not, a fault is raised, which leaves the frame.
 fn catch_by<H: Host, L: Ledger>(
     run: &mut Run<H>,
     context: Context<'_>,
@@ -150,6 +150,7 @@ fn catch_by<H: Host, L: Ledger>(
     handler: Handler,
 ) -> Result<bool, OutOfMemory>
     requires operands { handler.operands ≤ length run.old.stacks.operands }
+    requires cursors { handler.cursors ≤ length run.old.stacks.cursors }
     requires named { HasName context.program.now handler.variable }
     ensures same { (f : Activation) → f.address ≡ address → SimulatesExactly
         (setup_of H.law context.entry)
@@ -161,6 +162,17 @@ fn catch_by<H: Host, L: Ledger>(
     ensures caught { CaughtBy context.entry.engine.now handler run.old run.new result }
     ensures before { steps.new.before ≡ steps.old.before }
 {
+    run.stacks.cut_trace(0);
+    if run.scope.len() < handler.scope {
+        let kind = MalformedKind::TryFloorBroken {
+            wanted: handler.scope,
+            length: run.scope.len(),
+        };
+        let fault = EvalAltResult::Malformed(kind, Position::NONE);
+        run.raise_at(context, steps, address, fault);
+        return Ok(false);
+    }
+    cut_back(run, &handler);
     let Handler {
         target,
         variable,
@@ -170,18 +182,6 @@ fn catch_by<H: Host, L: Ledger>(
         scope,
         ..
     } = handler;
-    run.stacks.cut_trace(0);
-    if run.scope.len() < scope {
-        let kind = MalformedKind::TryFloorBroken {
-            wanted: scope,
-            length: run.scope.len(),
-        };
-        let fault = EvalAltResult::Malformed(kind, Position::NONE);
-        run.raise_at(context, steps, address, fault);
-        return Ok(false);
-    }
-    run.stacks.cut(operands);
-    run.scope.rewind(scope);
     if !bind_caught(run, context, steps, target, variable)? {
         return Ok(false);
     }
@@ -196,6 +196,40 @@ fn catch_by<H: Host, L: Ledger>(
         caught,
     })?;
     run.charge(context, host, steps, target as usize)
+}
+
+// Cuts the frame's operands, cursors and totals and the scope back to as many as there were when the
+// handler was pushed.
+fn cut_back<H: Host>(run: &mut Run<H>, handler: &Handler)
+    requires operands { handler.now.operands ≤ length run.old.stacks.operands }
+    requires cursors { handler.now.cursors ≤ length run.old.stacks.cursors }
+    ensures { run.new ≡ record run.old {
+      stacks = record run.old.stacks {
+        operands = take handler.now.operands run.old.stacks.operands;
+        cursors = outermost handler.now.cursors run.old.stacks.cursors;
+        totals = outermost handler.now.totals run.old.stacks.totals;
+      };
+      scope = take handler.now.scope run.old.scope;
+    } }
+{
+    run.stacks.cut(handler.operands);
+    run.stacks.cut_cursors(handler.cursors);
+    cut_totals(run, handler.totals);
+    run.scope.rewind(handler.scope);
+}
+
+// Keeps the first `count` of the frame's totals; if there are no more, all of them.
+fn cut_totals<H: Host>(run: &mut Run<H>, count: usize)
+    ensures { run.new ≡ record run.old {
+      stacks = record run.old.stacks {
+        totals =
+            outermost count run.old.stacks.totals;
+      };
+    } }
+{
+    if count < run.stacks.totals() {
+        run.stacks.cut_totals(count);
+    }
 }
 
 // Binds the variable of the handler, if it has one, to what was caught. It says whether that is

@@ -1,13 +1,12 @@
 //! What an instruction that is not done at once comes to: it is done, or it calls a function.
 
 ghost use Rattle.std.specs.Prelude.{◌≡◌};
-ghost use Rattle.grain_program.specs.Indices.{InPools};
 ghost use Rattle.grain_frame.specs.Abstraction.{Ready, setup_of, moment};
 ghost use Rattle.grain_vm.specs.Finding.{Finds, found_of};
 ghost use Rattle.grain_vm.specs.Methods.{NoneAbove};
 ghost use Rattle.grain_program.specs.declared.code.instruction_set.Op.TheVariants as op;
 
-use crate::asks::{call_native_by_name, native_by_name};
+use crate::asks::native_by_name;
 use grain_frame::{Activation, Context, Progress, Run, Under};
 use grain_global::Steps;
 use grain_host::Host;
@@ -31,37 +30,6 @@ impl Found {
         ensures { result ≡ found_of done }
     {
         Ok(Found::Done(done?))
-    }
-}
-
-// `call`: finds the function of a name with `count` parameters. If there is none, the native of
-// that name is called on the last `count` operands.
-#[cycle(run)]
-#[inline(always)]
-pub(crate) fn find_named<H: Host, L: Ledger>(
-    run: &mut Run<H>,
-    context: Context<'_>,
-    host: &mut H,
-    steps: &mut Steps<L>,
-    frame: &mut Activation,
-    name: u16,
-    count: u8,
-    next: usize,
-) -> Result<Found, OutOfMemory>
-    requires ready { Ready frame.old run.old (op.Call name count) next }
-    requires pools { InPools context.program.now (op.Call name count) }
-    requires none { NoneAbove run.old.level run.old.receivers }
-    ensures finds { Finds (setup_of H.law context.entry)
-        (moment frame.old run.old steps.old host.old) (op.Call name count) next result
-        (moment frame.new run.new steps.new host.new) }
-{
-    let count = usize::from(count);
-    match context.program.function(u32::from(name), count) {
-        Some(number) => Ok(Found::Function { number, next }),
-        None => {
-            let name = context.program.name(u32::from(name));
-            Found::of(call_native_by_name(run, context, host, steps, frame, name, count, next))
-        }
     }
 }
 

@@ -2,6 +2,7 @@
 //! chains are walked, and how main is run.
 #![tactic(auto)]
 
+mod apart;
 mod arguments;
 mod asks;
 mod attempts;
@@ -11,6 +12,7 @@ mod calls_back;
 mod catching;
 mod chain_operands;
 mod chains;
+mod curried;
 mod driving;
 mod finding;
 mod loaded;

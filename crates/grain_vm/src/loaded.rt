@@ -129,7 +129,7 @@ fn op_loaded<H: Host, L: Ledger>(
     requires runs { Runs context.program.now (moved frame.old at) (loaded run.old integer) }
     requires typed { IsTypedAt context.program.now frame.old.chunk (at + width)
         (length (loaded run.old integer).stacks.operands - count + 1)
-        (tries_in run.old.stacks.handlers) }
+        (length run.old.stacks.cursors) (tries_in run.old.stacks.handlers) }
     ensures performs { OnTrue result ((host : H) →
         PerformsOn (setup_of H.law context.entry) (moment (moved frame.old at)
         (loaded run.old integer) (begun_behind steps.old) host) (op.CallOp name count token)

@@ -9,15 +9,13 @@ ghost use Rattle.grain_vm.specs.Catching.{activation_at, stop_continuation, Stop
 ghost use Rattle.grain_frame.specs.Abstraction.{abstraction, frame_in, is_out, continuation, KeepsFrame, ContinuesAt, Runs, Stepped, setup_of, moment};
 ghost use Rattle.grain_vm.specs.Calls.{LeavesAround, frame_over, entry_of};
 ghost use Rattle.grain_vm.specs.Attempts.{IsPending};
-ghost use Rattle.grain_vm.specs.Finding.{FindsHere};
 ghost use Rattle.grain_vm.specs.Methods.{NoneAbove};
 ghost use Rattle.grain_program.specs.Indices.{IsNamed};
 
-use crate::attempts::{Attempt, Pending, quick};
+use crate::apart::step_apart;
+use crate::attempts::{Attempt, Pending, Way, quick, way_of};
 use crate::calls::{FrameEnd, enter_function, leave_by_fault, resume_caller};
 use crate::catching::catch;
-use crate::finding::{Found, find_named, find_pointed};
-use crate::method_runs::step_or_walk;
 use crate::stepping::jump;
 use grain_frame::{Activation, Context, Progress, Run};
 use grain_global::Steps;
@@ -59,7 +57,7 @@ pub(crate) fn call<H: Host, L: Ledger>(
     requires room { length run.old.stacks.operands - length function.now.params + 1
         ≤ run.old.stacks.room }
     requires enters { IsTypedAt context.program.now function.now.chunk
-        function.now.chunk.entry 0 [] }
+        function.now.chunk.entry 0 0 [] }
     requires named { IsNamed context.program.now function.now }
     requires none { NoneAbove run.old.level run.old.receivers }
     ensures goes { Simulates (setup_of H.law context.entry)
@@ -86,50 +84,9 @@ pub(crate) fn call<H: Host, L: Ledger>(
     }
 }
 
-// Does the instruction at which the frame stands and that `quick` did not do; if it calls a function,
-// says which. `step_or_walk` and `find_pointed` get a copy of the frame, so that the loop can keep its
-// own in registers, and only the fields that they can change are copied back.
-#[cycle(run)]
-#[inline(always)]
-fn do_or_find<H: Host, L: Ledger>(
-    run: &mut Run<H>,
-    context: Context<'_>,
-    host: &mut H,
-    steps: &mut Steps<L>,
-    frame: &mut Activation,
-    pending: Pending,
-) -> Result<Found, OutOfMemory>
-    requires runs { Runs context.program.now frame.old run.old }
-    requires none { NoneAbove run.old.level run.old.receivers }
-    requires pending { IsPending context.program.now frame.old run.old pending }
-    ensures finds { FindsHere (setup_of H.law context.entry)
-        (moment frame.old run.old steps.old host.old) result
-        (moment frame.new run.new steps.new host.new) }
-{
-    match pending {
-        Pending::Call { name, count, next } => {
-            find_named(run, context, host, steps, frame, name, count, next)
-        }
-        Pending::Pointer { count, next } => {
-            let mut copy = *frame;
-            let found = find_pointed(run, context, host, steps, &mut copy, count, next);
-            frame.address = copy.address;
-            frame.floor = copy.floor;
-            frame.slot = copy.slot;
-            found
-        }
-        Pending::Other => {
-            let mut copy = *frame;
-            let progress = step_or_walk(run, context, host, steps, &mut copy);
-            frame.address = copy.address;
-            frame.floor = copy.floor;
-            frame.slot = copy.slot;
-            Found::of(progress)
-        }
-    }
-}
-
-// Does the instruction at which the frame stands and that `quick` did not do.
+// Does the instruction at which the frame stands and that `quick` did not do. All but a call of a function
+// by its name is done on a copy of the frame, so that the loop can keep its own in registers, and only
+// the fields that may change are copied back.
 #[cycle(run)]
 #[inline(always)]
 fn proceed<H: Host, L: Ledger>(
@@ -147,15 +104,19 @@ fn proceed<H: Host, L: Ledger>(
         (moment frame.old run.old steps.old host.old) result
         (moment frame.new run.new steps.new host.new) }
 {
-    match do_or_find(run, context, host, steps, frame, pending) {
-        Err(e) => Err(e),
-        Ok(found) => match found {
-            Found::Done(progress) => Ok(progress),
-            Found::Function { number, next } => {
-                let function = context.program.function_at(number);
-                call(run, context, host, steps, frame, function, next)
-            }
-        },
+    match way_of(run, context, frame, pending) {
+        Way::Function { number, next } => {
+            let function = context.program.function_at(number);
+            call(run, context, host, steps, frame, function, next)
+        }
+        Way::Apart(apart) => {
+            let mut copy = *frame;
+            let progress = step_apart(run, context, host, steps, &mut copy, apart);
+            frame.address = copy.address;
+            frame.floor = copy.floor;
+            frame.slot = copy.slot;
+            progress
+        }
     }
 }
 

@@ -39,10 +39,11 @@ impl<'e> Model for Machine<'e> {
     ghost use Rattle.std.specs.Coded.{codes};
     ghost use Rattle.grain_value.specs.laws.TreeCode.{coded_tree};
     ghost use Rattle.grain_fault.specs.contracts.faults.EvalAltResult as row;
+    ghost use Rattle.grain_stack.specs.contracts.cursors.Cursor as cursor;
 
     ghost Value = { MachineView };
 
-    ghost coded = { Prim.hlevel (codes, coded_tree, row.the_row.coded) };
+    ghost coded = { Prim.hlevel (codes, coded_tree, row.the_row.coded, cursor.the_row.coded) };
 
     ghost view = { λ m. record { engine = m.engine.now; stacks = m.stacks } };
 }
@@ -159,6 +160,7 @@ impl<'e> Machine<'e> {
         global.num_operations = count;
         global.level = level;
         grain_means::one_meaning::<H>();
+        grain_means::core_agrees::<H>();
         grain_means::counted::<H>();
         grain_means::contained::<H>();
         grain_means::provided::<H>();

@@ -4,7 +4,6 @@
 ghost use Rattle.std.specs.Prelude.{◌≡◌, ◌<◌, ◌≤◌, ◌+◌, ◌-◌, ◌∷◌, [], length, slice_get, Some};
 ghost use Rattle.grain_frame.specs.Abstraction.{abstraction, continuation, frame_in, is_out, ContinuesAt, KeepsFrame, PerformsBound, Ready, ReadyIn, Runs, Stepped, setup_of, moment};
 ghost use Rattle.grain_vm.specs.Asks.{TookOne};
-ghost use Rattle.grain_vm.specs.Attempts.{CallsNothing};
 ghost use Rattle.grain_program.specs.declared.code.functions.Function.{Function};
 ghost use Rattle.grain_program.specs.TypedAt.{IsTypedAt};
 ghost use Rattle.grain_means.specs.Rules.{enter_function};
@@ -16,7 +15,7 @@ ghost use Rattle.grain_vm.specs.Receivers.{CalledOn};
 ghost use Rattle.grain_program.specs.Indices.{InPools, IsNamed};
 ghost use Rattle.grain_program.specs.declared.code.instruction_set.Op.TheVariants as op;
 
-use crate::asks::{native_on, wait_for_native};
+use crate::asks::native_on;
 use crate::chains::{Begun, begin_chain, finish_chain};
 use crate::driving::{Driven, drive, go_on};
 use crate::finding::{Found, find_pointed};
@@ -24,7 +23,6 @@ use crate::loops::{call, run_frame};
 use crate::methods::{MethodCall, Needed, Outcome, enter_method, leave_method};
 use crate::receiver_ends::end_on;
 use crate::receivers::{Callee, Destination, find_callee, take_call};
-use crate::stepping::{Turn, step};
 use crate::walk_natives::native_in_walk;
 use grain_frame::{Activation, Context, Progress, Run};
 use grain_global::Steps;
@@ -33,47 +31,11 @@ use grain_program::Function;
 use grain_value::{FnPtr, OutOfMemory};
 use std::sync::ledger::Ledger;
 
-// Does the instruction at which the frame stands, which is neither `call` nor `call_fn_ptr`. It is not
-// part of the loop, so that what a chain needs costs the loop no register.
-#[cycle(run)]
-#[cold]
-#[inline(never)]
-pub(crate) fn step_or_walk<H: Host, L: Ledger>(
-    run: &mut Run<H>,
-    context: Context<'_>,
-    host: &mut H,
-    steps: &mut Steps<L>,
-    frame: &mut Activation,
-) -> Result<Progress, OutOfMemory>
-    requires runs { Runs context.program.now frame.old run.old }
-    requires none { NoneAbove run.old.level run.old.receivers }
-    requires calls_nothing { CallsNothing context.program.now frame.old }
-    ensures stepped { Stepped (setup_of H.law context.entry)
-        (moment frame.old run.old steps.old host.old) result
-        (moment frame.new run.new steps.new host.new) }
-{
-    match step(run, context, host, steps, frame) {
-        Err(e) => Err(e),
-        Ok(turn) => match turn {
-            Turn::Done(progress) => Ok(progress),
-            Turn::Waits(waiting) => wait_for_native(run, context, host, steps, frame, waiting),
-            Turn::Chain { index, next } => {
-                walk_chain(run, context, host, steps, frame, index, next)
-            }
-            Turn::Receiver {
-                destination,
-                count,
-                next,
-            } => call_with(run, context, host, steps, frame, destination, count, next),
-        },
-    }
-}
-
 // `chain`: walks the chain, and calls each function that the walk needs in a frame of its own.
 #[cycle(run)]
 #[cold]
 #[inline(never)]
-fn walk_chain<H: Host, L: Ledger>(
+pub(crate) fn walk_chain<H: Host, L: Ledger>(
     run: &mut Run<H>,
     context: Context<'_>,
     host: &mut H,
@@ -138,7 +100,7 @@ fn walk_chain<H: Host, L: Ledger>(
 #[cycle(run)]
 #[cold]
 #[inline(never)]
-fn call_with<H: Host, L: Ledger>(
+pub(crate) fn call_with<H: Host, L: Ledger>(
     run: &mut Run<H>,
     context: Context<'_>,
     host: &mut H,
@@ -268,7 +230,7 @@ fn call_on<H: Host, L: Ledger>(
 #[cycle(run)]
 #[cold]
 #[inline(never)]
-fn call_apart<H: Host, L: Ledger>(
+pub(crate) fn call_apart<H: Host, L: Ledger>(
     run: &mut Run<H>,
     context: Context<'_>,
     host: &mut H,
@@ -282,7 +244,7 @@ fn call_apart<H: Host, L: Ledger>(
     requires room { length run.old.stacks.operands - length function.now.params + 1
         ≤ run.old.stacks.room }
     requires enters { IsTypedAt context.program.now function.now.chunk
-        function.now.chunk.entry 0 [] }
+        function.now.chunk.entry 0 0 [] }
     requires named { IsNamed context.program.now function.now }
     requires none { NoneAbove run.old.level run.old.receivers }
     ensures goes { Simulates (setup_of H.law context.entry)
@@ -305,6 +267,29 @@ fn call_apart<H: Host, L: Ledger>(
 #[cold]
 #[inline(never)]
 pub(crate) fn call_method<H: Host, L: Ledger>(
+    run: &mut Run<H>,
+    context: Context<'_>,
+    host: &mut H,
+    steps: &mut Steps<L>,
+    call: MethodCall,
+) -> Outcome
+    requires there { HasFunction context.program.now call }
+    requires none { NoneAbove run.old.level run.old.receivers }
+    ensures called { (g : Function) → slice_get context.entry.program.now.functions call.number ≡ Some g →
+        CallsMethod (setup_of H.law context.entry) call g run.old steps.old host.old result.0 result.1
+        run.new steps.new host.new }
+    ensures over { MethodOver run.old run.new }
+    ensures lent { SameFlag call.receiver result.1 }
+    ensures took { TookOne context.entry.engine.now run.old result.0 run.new }
+    ensures before { steps.new.before ≡ steps.old.before }
+{
+    run_method(run, context, host, steps, call)
+}
+
+// The same, built into its caller, where a call that has no receiver needs none of its steps.
+#[cycle(run)]
+#[inline(always)]
+pub(crate) fn run_method<H: Host, L: Ledger>(
     run: &mut Run<H>,
     context: Context<'_>,
     host: &mut H,

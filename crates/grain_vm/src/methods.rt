@@ -13,6 +13,7 @@ ghost use Rattle.grain_vm.specs.Calls.{caller_of, frame_answer};
 ghost use Rattle.grain_vm.specs.Methods.{Enters, EntersBound, GivesOutcome, LeavesBody, MarksEntry, NeedsSo, NoneAbove, bound_with, given_back, given_to, kept_back, left_from};
 
 use crate::calls::{FrameEnd, deeper, wrapped};
+use crate::curried::with_curried;
 use crate::main_runs::take_value;
 use grain_chain::{Request, What};
 use grain_fault::{EvalAltResult, Position};
@@ -44,24 +45,6 @@ pub enum Needed {
 
 // The value or the fault of such a call, and the receiver as the call left it.
 pub(crate) type Outcome = (Result<Dynamic, EvalAltResult>, Option<Held>);
-
-// Copies of a pointer's values, followed by others.
-pub(crate) fn with_curried(
-    alloc: std::alloc::Global,
-    curry: &Array,
-    others: &Array,
-) -> Result<Array, OutOfMemory>
-    ensures { IfOk result (λ all. all ≡ curry.now ++ others.now) }
-{
-    let mut all = Array::new(alloc);
-    'curried: for index in 0..curry.len() {
-        all.push(curry.at(index).copy(alloc)?)?;
-    }
-    'others: for index in 0..others.len() {
-        all.push(others.at(index).copy(alloc)?)?;
-    }
-    Ok(all)
-}
 
 // Whether a request calls a native or a function of the program, and which. If memory runs out, it gives
 // the request back.
@@ -97,9 +80,9 @@ pub(crate) fn resolve_request<H: Host>(
         What::Pointer(pointer) => {
             let count = pointer.curry().len() + arguments.len();
             let found = context.program.function_named(pointer.fn_name(), count);
-            let all = match with_curried(run.alloc, pointer.curry(), &arguments) {
+            let all = match with_curried(run.alloc, pointer.curry(), arguments) {
                 Ok(all) => all,
-                Err(OutOfMemory) => {
+                Err(arguments) => {
                     return Err(Request {
                         step,
                         pos,
@@ -133,6 +116,7 @@ pub(crate) fn resolve_request<H: Host>(
 // function's frame, and enters the frame. If the receiver is read-only, the `this` is a copy of it, and
 // the receiver itself is given, to be returned to the walk after the call. If the frame is not entered,
 // the call is over, and its outcome is given.
+#[inline(always)]
 pub(crate) fn enter_method<H: Host, L: Ledger>(
     run: &mut Run<H>,
     context: Context<'_>,
@@ -171,12 +155,13 @@ pub(crate) fn enter_method<H: Host, L: Ledger>(
         steps.mark();
         return Err((Err(EvalAltResult::ErrorTooManyVariables(pos)), receiver));
     }
-    enter_bound(run, context, steps, function, level, receiver, &arguments)
+    enter_bound(run, context, steps, function, level, receiver, arguments)
 }
 
 // Makes the receiver the `this` of the function's frame, and enters the frame, at a mark. If the
 // receiver is read-only, the `this` is a copy of it, and the receiver itself is given, to be returned to
 // the walk after the call. If memory runs out, only the receiver is given, as it was.
+#[inline(always)]
 fn enter_bound<H: Host, L: Ledger>(
     run: &mut Run<H>,
     context: Context<'_>,
@@ -184,14 +169,14 @@ fn enter_bound<H: Host, L: Ledger>(
     function: &Function,
     level: usize,
     receiver: Option<Held>,
-    arguments: &Array,
+    arguments: Array,
 ) -> Result<Option<Held>, Outcome>
     requires named { IsNamed context.program.now function.now }
-    requires count { length function.now.params ≡ length arguments.now }
+    requires count { length function.now.params ≡ length arguments }
     requires level { level ≡ run.old.level + 1 }
     requires none { NoneAbove run.old.level run.old.receivers }
-    ensures entered { EntersBound function.now context.entry.program.now receiver arguments.now
-        run.old result run.new }
+    ensures entered { EntersBound function.now context.entry.program.now receiver arguments run.old
+        result run.new }
     ensures marked { MarksEntry result steps.old steps.new }
 {
     let back = match bind_receiver(run, level, receiver) {
@@ -211,6 +196,7 @@ fn enter_bound<H: Host, L: Ledger>(
 // Makes the receiver, if there is one, the `this` of the frame of a level. If it is read-only, the `this`
 // is a copy of it, and the receiver itself is given. If memory runs out, nothing changes, and
 // the receiver comes back.
+#[inline(always)]
 fn bind_receiver<H: Host>(
     run: &mut Run<H>,
     level: usize,
@@ -247,6 +233,7 @@ fn bind_receiver<H: Host>(
 
 // Takes the `this` of the frame of this level away, if it has one, and gives what is returned to the
 // walk: `back`, if there is one, or else that `this`.
+#[inline(always)]
 fn receiver_left<H: Host>(run: &mut Run<H>, level: usize, back: Option<Held>) -> Option<Held>
     ensures value { result ≡ given_back back (bound_at level run.old.receivers) }
     ensures rest { run.new ≡ record run.old {
@@ -279,13 +266,13 @@ fn enter_frame<H: Host>(
     run: &mut Run<H>,
     context: Context<'_>,
     function: &Function,
-    arguments: &Array,
+    arguments: Array,
 ) -> Result<(), OutOfMemory>
     requires named { IsNamed context.program.now function.now }
-    requires count { length function.now.params ≡ length arguments.now }
+    requires count { length function.now.params ≡ length arguments }
     ensures entered { OnOk result (run.new ≡ record run.old {
       stacks = with_frame function.now.chunk.max_stack run.old.stacks;
-      scope = bound context.entry.program.now function.now.params (given_to arguments.now);
+      scope = bound context.entry.program.now function.now.params (given_to arguments);
       saved = run.old.saved ++ run.old.scope ∷ [];
     }) }
     ensures refused { OnErr result (run.new ≡ run.old) }
@@ -300,36 +287,37 @@ fn enter_frame<H: Host>(
     }
 }
 
-// Makes copies of the arguments the entries of the scope, which is empty, and enters the
-// function's frame. If memory runs out, only the scope has changed.
+// Makes the arguments the entries of the scope, which is empty, and enters the function's frame. If
+// memory runs out, only the scope has changed.
 fn bind_arguments<H: Host>(
     run: &mut Run<H>,
     context: Context<'_>,
     function: &Function,
-    arguments: &Array,
+    arguments: Array,
 ) -> Result<(), OutOfMemory>
     requires empty { run.old.scope ≡ [] }
     requires named { IsNamed context.program.now function.now }
-    requires count { length function.now.params ≡ length arguments.now }
+    requires count { length function.now.params ≡ length arguments }
     ensures entered { OnOk result (run.new ≡ record run.old {
       stacks = with_frame function.now.chunk.max_stack run.old.stacks;
-      scope = bound context.entry.program.now function.now.params (given_to arguments.now);
+      scope = bound context.entry.program.now function.now.params (given_to arguments);
     }) }
     ensures refused { OnErr result (run.new ≡ record run.old { scope = run.new.scope }) }
 {
-    'arguments: for index in 0..arguments.len() {
-        let name = context
-            .program
-            .names()
-            .at(function.params.as_slice()[index] as usize);
-        let value = arguments.at(index).copy(run.alloc)?;
+    let names = context.program.names();
+    let params = function.params.as_slice();
+    let mut index = 0;
+    'arguments: for value in arguments.into_vec() {
+        let name = names.at(params[index] as usize);
         run.scope.push_shared(name, Held::read_write(value))?;
+        index += 1;
     }
     run.stacks.enter(function.chunk.max_stack)
 }
 
 // Ends the call of a function that a walk needed: leaves its frame, puts the caller's scope and level
 // back, and gives the outcome of the call.
+#[inline(always)]
 pub(crate) fn leave_method<H: Host, L: Ledger>(
     run: &mut Run<H>,
     context: Context<'_>,

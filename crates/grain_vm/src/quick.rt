@@ -37,7 +37,8 @@ pub(crate) fn quick_const<H: Host, L: Ledger>(
     requires pools { InPools context.program.now (op.LoadConst constant) }
     requires runs { Runs context.program.now frame.old run.old }
     requires typed { IsTypedAt context.program.now frame.old.chunk next
-        (length run.old.stacks.operands + 1) (tries_in run.old.stacks.handlers) }
+        (length run.old.stacks.operands + 1) (length run.old.stacks.cursors)
+        (tries_in run.old.stacks.handlers) }
     ensures performs { OnTrue result ((host : H) →
         PerformsOn (setup_of H.law context.entry) (moment frame.old run.old steps.old host)
         (op.LoadConst constant) next (moment frame.new run.new steps.new host)) }
@@ -74,7 +75,8 @@ pub(crate) fn quick_local<H: Host, L: Ledger>(
     requires ready { Ready frame.old run.old (op.LoadLocal slot) next }
     requires runs { Runs context.program.now frame.old run.old }
     requires typed { IsTypedAt context.program.now frame.old.chunk next
-        (length run.old.stacks.operands + 1) (tries_in run.old.stacks.handlers) }
+        (length run.old.stacks.operands + 1) (length run.old.stacks.cursors)
+        (tries_in run.old.stacks.handlers) }
     ensures performs { OnTrue result ((host : H) →
         PerformsOn (setup_of H.law context.entry) (moment frame.old run.old steps.old host)
         (op.LoadLocal slot) next (moment frame.new run.new steps.new host)) }
@@ -165,7 +167,8 @@ pub(crate) fn quick_op<H: Host, L: Ledger>(
     requires fits { frame.old.address + width ≤ most_code }
     requires runs { Runs context.program.now frame.old run.old }
     requires typed { IsTypedAt context.program.now frame.old.chunk (frame.old.address + width)
-        (length run.old.stacks.operands - count + 1) (tries_in run.old.stacks.handlers) }
+        (length run.old.stacks.operands - count + 1) (length run.old.stacks.cursors)
+        (tries_in run.old.stacks.handlers) }
     ensures performs { OnTrue result ((host : H) →
         PerformsOn (setup_of H.law context.entry) (moment frame.old run.old steps.old host)
         (op.CallOp name count token) (frame.old.address + width)

@@ -3,7 +3,7 @@
 ghost use Rattle.std.specs.Prelude.{◌≡◌};
 ghost use Rattle.grain_frame.specs.Abstraction.{Runs, Stepped, setup_of, moment};
 ghost use Rattle.grain_vm.specs.Attempts.{CallsNothing, StandsAtJump};
-ghost use Rattle.grain_vm.specs.Finding.{StepsHere, turn_of};
+ghost use Rattle.grain_vm.specs.Finding.{StepsHere, StepsIfPlain, is_plain, turn_of};
 
 use crate::receivers::Destination;
 use grain_frame::{Activation, Context, Performed, Progress, Run, Waiting};
@@ -63,6 +63,53 @@ pub(crate) fn jump<H: Host, L: Ledger>(
         (moment frame.new run.new steps.new host.new) }
 {
     run.jump_to(context, host, steps, frame, target as usize)
+}
+
+// Whether an instruction is plain: it calls nothing, walks along no place, and asks the host for no
+// native.
+#[inline(always)]
+fn is_plain(op: Op) -> bool
+    ensures { result ≡ is_plain op }
+{
+    match op {
+        Op::Call(_, _) => false,
+        Op::CallFnPtr(_) => false,
+        Op::Chain(_) => false,
+        Op::CallFnPtrMethod(_) => false,
+        Op::CallFnPtrOnLocal(_, _) => false,
+        Op::CallFnPtrOnThis(_) => false,
+        Op::CallOp(_, _, _) => false,
+        Op::AssignLocalOp(_, _, _) => false,
+        Op::AssignThisOp(_) => false,
+        _ => true,
+    }
+}
+
+// Does the instruction at which the frame stands if it is plain. Else nothing is done, and there is no
+// progress.
+#[inline(always)]
+pub(crate) fn step_plain<H: Host, L: Ledger>(
+    run: &mut Run<H>,
+    context: Context<'_>,
+    host: &mut H,
+    steps: &mut Steps<L>,
+    frame: &mut Activation,
+) -> Result<Option<Progress>, OutOfMemory>
+    requires runs { Runs context.program.now frame.old run.old }
+    ensures steps { StepsIfPlain (setup_of H.law context.entry)
+        (moment frame.old run.old steps.old host.old) result
+        (moment frame.new run.new steps.new host.new) }
+{
+    let address = frame.address;
+    let depth = run.stacks.height();
+    let (op, width) = context.program.fetch(frame.chunk, address, depth);
+    if !is_plain(op) {
+        return Ok(None);
+    }
+    match run.perform(context, host, steps, frame, op, address + width) {
+        Err(e) => Err(e),
+        Ok(progress) => Ok(Some(progress)),
+    }
 }
 
 // Does the instruction at which the frame stands, which is neither `call` nor `call_fn_ptr`. If

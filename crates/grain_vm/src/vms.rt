@@ -23,7 +23,8 @@ use std::marker::Model;
 use std::sync::ledger::Ledger;
 
 /// A machine: its engine, the state that outlives a run, and the trace of the last run. Between two
-/// runs, whatever the answer was, no frame is entered, and it holds no operand and no handler.
+/// runs, whatever the answer was, no frame is entered, and it holds no operand, handler, cursor and
+/// total.
 #[derive(Drop)]
 pub struct Vm<'e> {
     machine: Machine<'e>,

@@ -4,8 +4,11 @@ use Rattle.grain_frame.specs.Abstraction.{frame_in, this_of, is_out, moment, abs
 use Rattle.grain_vm.specs.Driving.{IsApart}
 use Rattle.grain_vm.specs.Methods.{NoneAbove, given_to}
 use Rattle.grain_frame.specs.declared.waiting.Performed.TheVariants as performed
-use Rattle.grain_frame.specs.lemmas.Bound.{as_bound}
-use Rattle.grain_vm.proofs.Found.{call_found, done_here, found_stepped, is_function, other_found, pointer_found, finds_of, named_found, call_refused, none_numbered, pointed_done, pointed_found}
+use Rattle.grain_frame.specs.lemmas.Bound.{arm_bound, as_bound}
+use Rattle.grain_vm.proofs.Found.{found_stepped, function_found_so, is_done, is_function, pointer_found, stepped_on_copy, finds_of, call_refused, none_numbered, pointed_done, pointed_found}
+use Rattle.grain_vm.specs.Attempts.{IsPending}
+use Rattle.grain_vm.specs.declared.attempts.Pending.{Pending}
+use Rattle.grain_vm.proofs.Plain.{stepped_from}
 use Rattle.grain_vm.proofs.Calling.{call_ran, has_begun, not_begun, entered_with, kept_with, refused_here, refused_this, there_is, outer_is}
 use Rattle.grain_vm.proofs.ChainAhead.{chain_stepped}
 use Rattle.grain_vm.proofs.ReceiverAhead.{receiver_stepped}
@@ -38,14 +41,14 @@ use Rattle.grain_vm.proofs.OnFrames.{callee_out, callee_refused, finds_on_of, fi
 use Rattle.grain_vm.proofs.OnCalls.{call_out, function_done, native_done}
 use Rattle.grain_vm.specs.declared.natives.OnReceiver.TheVariants as on
 use Rattle.grain_vm.proofs.EndedOn.{apart_so, cells_over, ended_cell, ended_plain, left_there}
-use Rattle.grain_vm.proofs.NamedNatives.{it_ended, it_led, it_waits, named_done, on_copy, pointed_out, waited}
+use Rattle.grain_vm.proofs.NamedNatives.{it_ended, it_led, it_waits, named_done, pointed_out, waited}
 use Rattle.grain_program.specs.declared.code.instruction_set.Op.TheVariants as op
 use Rattle.grain_means.specs.Rules.{function_found, call_function, function_by_name, operand_under, race_text}
 use Rattle.grain_value.specs.Cells.{flat}
 use Rattle.grain_value.specs.Operands.{arguments, read_write, under}
 use Rattle.grain_value.specs.Writing.{type_name_of}
 use Rattle.grain_fault.specs.Problems.{Plain, DataRace, MismatchDataType}
-use Rattle.grain_program.specs.Lookups.{CalledByText, function_by_text}
+use Rattle.grain_program.specs.Lookups.{CalledByText, function_by_text, function_of}
 use Rattle.grain_stack.specs.Views.{StacksView}
 use Rattle.grain_means.specs.Simulation.{stopped, world}
 use Rattle.grain_frame.specs.declared.runs.Run.{Run}
@@ -90,7 +93,7 @@ loops::call-returns-then-begun-clause-goes g t c =
     call_ran f c.args.next function c.args.run.now.scope c.args.run.now.level (this_of s)
     (has_begun c.in-Ok.begun c.args.run.now c.enter_function.new.run function f c.args.next
     c.if-begun.true (c.in-Ok.ensures.same c.args.next))
-    (λ place. rw (entered.operands, entered.handlers) refl)
+    (λ place. rw (entered.operands, entered.cursors, entered.totals, entered.handlers) refl)
     (rw (entered.level, entered.receivers) (unbound_above s.level s.receivers c.requires.none))
     ran.ensures.goes
     (there_is c.args.context.engine.now c.args.frame.now c.resume_caller.new.frame c.args.run.now
@@ -105,18 +108,76 @@ loops::call-returns-then-begun-clause-goes g t c =
 pub loops::proceed-returns-in-Function : goal.loops::proceed-returns-in-Function
 loops::proceed-returns-in-Function g t c =
     let p = c.args.context.program.now in
-    let here = is_function g.H.Host.law p c.args.context.engine.now c.args.frame.now
-    c.do_or_find.new.frame c.args.run.now c.do_or_find.new.run c.args.steps.now c.do_or_find.new.steps
-    c.in-Ok.found c.in-Function.number c.in-Function.next c.args.host.now c.do_or_find.new.host
-    c.in-Function.is c.in-Ok.ensures.finds in
+    let engine = c.args.context.engine.now in
+    let f = c.args.frame.now in
+    let s = c.args.run.now in
+    let n = c.args.steps.now in
+    let host = c.args.host.now in
     record {
-      stepped = found_stepped g.H.Host.law p c.args.context.engine.now c.args.frame.now
-          c.do_or_find.new.frame c.call.new.frame c.args.run.now c.do_or_find.new.run c.call.new.run
-          c.args.steps.now c.do_or_find.new.steps c.call.new.steps c.in-Function.number
-          c.in-Function.next c.args.host.now c.do_or_find.new.host c.call.new.host
-          c.function_at-function.result.now c.requires.runs here
+      stepped = found_stepped g.H.Host.law p engine f f c.call.new.frame s s c.call.new.run n n
+          c.call.new.steps c.in-Function.number c.in-Function.next host host c.call.new.host
+          c.function_at-function.result.now c.requires.runs
+          (function_found_so g.H.Host.law p engine f s n c.in-Function.number c.in-Function.next
+          host c.way_of.result c.in-Function.is c.way_of.ensures)
           c.function_at-function.ensures.value c.call.ensures.goes c.call.ensures.kept
           c.call.ensures.lands c.call.ensures.before;
+    }
+
+pub loops::proceed-returns-in-Apart : goal.loops::proceed-returns-in-Apart
+loops::proceed-returns-in-Apart g t c =
+    let did = c.step_apart-progress in
+    record {
+      stepped = stepped_on_copy g.H.Host.law c.args.context.program.now c.args.context.engine.now
+          c.args.frame.now did.new.frame c.args.run.now did.new.run c.args.steps.now did.new.steps
+          c.args.host.now did.new.host did.result did.ensures.stepped;
+    }
+
+pub apart::call_pointer-returns-in-Function : goal.apart::call_pointer-returns-in-Function
+apart::call_pointer-returns-in-Function g t c =
+    let law = g.H.Host.law in
+    let p = c.args.context.program.now in
+    let engine = c.args.context.engine.now in
+    let found = c.find_pointed.new in
+    let called = c.call_apart in
+    let here = is_function law p engine c.args.frame.now found.frame c.args.run.now found.run
+    c.args.steps.now found.steps c.in-Ok.found c.in-Function.number c.in-Function.next
+    c.args.host.now found.host c.in-Function.is
+    (pointer_found law p engine c.args.frame.now found.frame c.args.run.now found.run
+    c.args.steps.now found.steps c.args.count c.args.next c.args.host.now found.host
+    (Ok c.in-Ok.found) c.requires.runs c.requires.stands c.in-Ok.ensures.finds) in
+    record {
+      stepped = found_stepped law p engine c.args.frame.now found.frame called.new.frame
+          c.args.run.now found.run called.new.run c.args.steps.now found.steps called.new.steps
+          c.in-Function.number c.in-Function.next c.args.host.now found.host called.new.host
+          c.function_at-function.result.now c.requires.runs here
+          c.function_at-function.ensures.value called.ensures.goes called.ensures.kept
+          called.ensures.lands called.ensures.before;
+    }
+
+pub apart::call_pointer-returns-in-Done : goal.apart::call_pointer-returns-in-Done
+apart::call_pointer-returns-in-Done g t c =
+    let law = g.H.Host.law in
+    let p = c.args.context.program.now in
+    let engine = c.args.context.engine.now in
+    let found = c.find_pointed.new in
+    record {
+      stepped = is_done (setup law p engine)
+          (moment c.args.frame.now c.args.run.now c.args.steps.now c.args.host.now)
+          (moment found.frame found.run found.steps found.host) c.in-Ok.found c.in-Done.progress
+          c.in-Done.is
+          (pointer_found law p engine c.args.frame.now found.frame c.args.run.now found.run
+          c.args.steps.now found.steps c.args.count c.args.next c.args.host.now found.host
+          (Ok c.in-Ok.found) c.requires.runs c.requires.stands c.in-Ok.ensures.finds);
+    }
+
+pub apart::call_pointer-returns-in-Err : goal.apart::call_pointer-returns-in-Err
+apart::call_pointer-returns-in-Err g t c =
+    let found = c.find_pointed.new in
+    record {
+      stepped = pointer_found g.H.Host.law c.args.context.program.now c.args.context.engine.now
+          c.args.frame.now found.frame c.args.run.now found.run c.args.steps.now found.steps
+          c.args.count c.args.next c.args.host.now found.host (Err c.in-Err.e) c.requires.runs
+          c.requires.stands c.in-Err.ensures.finds;
     }
 
 pub loops::run_from-turn-smaller-in-Done : goal.loops::run_from-turn-smaller-in-Done
@@ -277,42 +338,26 @@ loops::run_frame-frame-preserved g t c =
     c.in-Ok.ensures.catches c.in-Ok.ensures.around c.in-Some.is (offers.goes at refl refl refl)
     offers.kept (offers.typed at) c.catch.ensures.before
 
-pub loops::do_or_find-returns-in-Call : goal.loops::do_or_find-returns-in-Call
-loops::do_or_find-returns-in-Call g t c =
-    let found = c.find_named in
+pub apart::call_or_walk-returns-in-Call : goal.apart::call_or_walk-returns-in-Call
+apart::call_or_walk-returns-in-Call g t c =
+    let at = subst (λ (q : Pending). IsPending c.args.context.program.now c.args.frame.now
+    c.args.run.now q) c.in-Call.is c.pending_at.ensures in
+    record { stepped = arm_bound refl refl refl at c.requires.runs c.call_native.ensures.performs }
+
+pub apart::step_or_walk-returns-in-None : goal.apart::step_or_walk-returns-in-None
+apart::step_or_walk-returns-in-None g t c =
+    let did = c.step_plain.new in
+    let walked = c.call_or_walk in
     record {
-      finds = call_found g.H.Host.law c.args.context.program.now c.args.context.engine.now
-          c.args.frame.now found.new.frame c.args.run.now found.new.run c.args.steps.now
-          found.new.steps c.in-Call.name c.in-Call.count c.in-Call.next c.args.host.now
-          found.new.host c.args.pending found.result c.requires.runs c.in-Call.is c.requires.pending
-          found.ensures.finds;
+      stepped = stepped_from g.H.Host.law c.args.context.program.now c.args.context.engine.now
+          c.args.frame.now did.frame c.args.run.now did.run c.args.steps.now did.steps
+          c.args.host.now did.host
+          (moment walked.new.frame walked.new.run walked.new.steps walked.new.host) walked.result
+          c.in-Ok.done c.in-None.is c.in-Ok.ensures.steps walked.ensures.stepped;
     }
 
-pub loops::do_or_find-returns-in-Pointer : goal.loops::do_or_find-returns-in-Pointer
-loops::do_or_find-returns-in-Pointer g t c =
-    let found = c.find_pointed-found in
-    record {
-      finds = pointer_found g.H.Host.law c.args.context.program.now c.args.context.engine.now
-          c.args.frame.now found.new.frame c.args.run.now found.new.run c.args.steps.now
-          found.new.steps c.in-Pointer.count c.in-Pointer.next c.args.host.now found.new.host
-          c.args.pending found.result c.requires.runs c.in-Pointer.is c.requires.pending
-          found.ensures.finds;
-    }
-
-pub loops::do_or_find-returns-in-Other : goal.loops::do_or_find-returns-in-Other
-loops::do_or_find-returns-in-Other g t c =
-    let did = c.step_or_walk-progress in
-    rw c.of.ensures (record {
-      finds = other_found g.H.Host.law c.args.context.program.now c.args.context.engine.now
-          c.args.frame.now did.new.frame c.args.run.now did.new.run c.args.steps.now did.new.steps
-          c.args.host.now did.new.host (found_of did.result)
-          (done_here g.H.Host.law c.args.context.program.now c.args.context.engine.now
-          c.args.frame.now did.new.frame c.args.run.now did.new.run c.args.steps.now did.new.steps
-          c.args.host.now did.new.host did.result did.ensures.stepped);
-    })
-
-pub method_runs::step_or_walk-returns-in-Waits : goal.method_runs::step_or_walk-returns-in-Waits
-method_runs::step_or_walk-returns-in-Waits g t c =
+pub apart::walk_or_wait-returns-in-Waits : goal.apart::walk_or_wait-returns-in-Waits
+apart::walk_or_wait-returns-in-Waits g t c =
     let did = c.step.new in
     let waited = c.wait_for_native in
     record {
@@ -322,8 +367,8 @@ method_runs::step_or_walk-returns-in-Waits g t c =
           c.in-Ok.ensures.steps c.requires.runs waited.ensures.goes;
     }
 
-pub method_runs::step_or_walk-returns-in-Chain : goal.method_runs::step_or_walk-returns-in-Chain
-method_runs::step_or_walk-returns-in-Chain g t c =
+pub apart::walk_or_wait-returns-in-Chain : goal.apart::walk_or_wait-returns-in-Chain
+apart::walk_or_wait-returns-in-Chain g t c =
     let did = c.step.new in
     let walked = c.walk_chain in
     record {
@@ -335,8 +380,8 @@ method_runs::step_or_walk-returns-in-Chain g t c =
           walked.ensures.performs;
     }
 
-pub method_runs::step_or_walk-returns-in-Receiver : goal.method_runs::step_or_walk-returns-in-Receiver
-method_runs::step_or_walk-returns-in-Receiver g t c =
+pub apart::walk_or_wait-returns-in-Receiver : goal.apart::walk_or_wait-returns-in-Receiver
+apart::walk_or_wait-returns-in-Receiver g t c =
     let did = c.step.new in
     let called = c.call_with in
     record {
@@ -376,8 +421,8 @@ loops::run_from-turn-init g t c = runs_here c.requires.runs c.requires.none
 
 -- ---- functions that a walk calls
 
-pub method_runs::call_method-returns-in-Err : goal.method_runs::call_method-returns-in-Err
-method_runs::call_method-returns-in-Err g t c =
+pub method_runs::run_method-returns-in-Err : goal.method_runs::run_method-returns-in-Err
+method_runs::run_method-returns-in-Err g t c =
     let m = setup g.H.Host.law c.args.context.program.now c.args.context.engine.now in
     let found = c.function_at-function in
     let o = c.in-Err.refused in
@@ -396,8 +441,8 @@ method_runs::call_method-returns-in-Err g t c =
       before = c.enter_method.ensures.before;
     }
 
-pub method_runs::call_method-returns-in-Ok : goal.method_runs::call_method-returns-in-Ok
-method_runs::call_method-returns-in-Ok g t c =
+pub method_runs::run_method-returns-in-Ok : goal.method_runs::run_method-returns-in-Ok
+method_runs::run_method-returns-in-Ok g t c =
     let m = setup g.H.Host.law c.args.context.program.now c.args.context.engine.now in
     let found = c.function_at-function in
     let entered = c.enter_method.new in
@@ -732,38 +777,20 @@ method_runs::call_on-returns-in-Native g t c =
           ended.ensures.implements ended.ensures.carries;
     }
 
-pub finding::find_named-returns-in-None : goal.finding::find_named-returns-in-None
-finding::find_named-returns-in-None g t c =
+pub asks::call_native-returns : goal.asks::call_native-returns
+asks::call_native-returns g t c =
     let p = c.args.context.program.now in
-    let engine = c.args.context.engine.now in
-    let s = c.args.run.now in
-    let f = c.args.frame.now in
-    let none : function_found p c.args.name c.args.count ≡ None = search rules in
+    let none : function_found p c.args.name c.args.count ≡ None =
+    none_numbered p (function_of p c.args.name c.args.count) (sym c.requires.missing) in
     let named : c.name-name.result.now ≡ name_of p c.args.name =
-    c.name-name.ensures ∙ ap (name_of p) c.from-in-None.ensures in
-    let did = c.call_native_by_name in
-    rw c.of.ensures (record {
-      finds = finds_of g.H.Host.law p engine f did.new.frame s did.new.run c.args.steps.now
-          did.new.steps (op.Call c.args.name c.args.count) c.args.next c.args.host.now did.new.host
-          did.result
-          (named_done g.H.Host.law p engine f did.new.frame s did.new.run c.args.steps.now
-          did.new.steps c.args.name c.args.count c.args.next c.args.host.now did.new.host did.result
-          c.name-name.result.now c.from-count.result none named c.from-count.ensures
-          did.ensures.implements);
-    })
-
-pub finding::find_named-returns-in-Some : goal.finding::find_named-returns-in-Some
-finding::find_named-returns-in-Some g t c = record {
-  finds = (
-    refl,
-    named_found g.H.Host.law c.args.context.program.now c.args.context.engine.now
-        c.args.frame.now c.args.run.now c.args.steps.now c.args.name c.args.count c.args.next
-        c.in-Some.number c.args.host.now
-        (rw (c.from.ensures, c.from-count.ensures) at c.in-Some.ensures.exact)
-        (rw (c.from.ensures, c.from-count.ensures) at c.in-Some.ensures.called)
-        c.requires.ready.operands,
-  );
-}
+    c.name-name.ensures ∙ ap (name_of p) c.from.ensures in
+    let did = c.native_by_name in
+    record {
+      performs = named_done g.H.Host.law p c.args.context.engine.now c.args.frame.now did.new.frame
+          c.args.run.now did.new.run c.args.steps.now did.new.steps c.args.name c.args.count
+          c.args.next c.args.host.now did.new.host did.result c.name-name.result.now
+          c.from-count.result none named c.from-count.ensures did.ensures.implements;
+    }
 
 pub finding::find_pointed-returns-in-Lent : goal.finding::find_pointed-returns-in-Lent
 finding::find_pointed-returns-in-Lent g t c =
@@ -918,7 +945,8 @@ asks::wait_for_native-natives-init g t c =
     (moment c.args.frame.now c.args.run.now c.args.steps.now c.args.host.now) c.args.waiting
     c.requires.runs c.requires.none
 
-pub asks::wait_for_native-native_over-requires-clause-leads : goal.asks::wait_for_native-native_over-requires-clause-leads
+pub asks::wait_for_native-native_over-requires-clause-leads :
+    goal.asks::wait_for_native-native_over-requires-clause-leads
 asks::wait_for_native-native_over-requires-clause-leads g t c =
     let waits = c.natives.invariant.waits in
     let ended = c.end_of_native-outcome in (
@@ -1084,14 +1112,6 @@ asks::native_by_name-returns-in-Waits g t c = record {
       c.in_ok-progress.ensures.implements) c.wait_for_native.result c.wait_for_native.ensures.goes;
 }
 
-pub asks::call_native_by_name-returns : goal.asks::call_native_by_name-returns
-asks::call_native_by_name-returns g t c =
-    let did = c.native_by_name-progress in
-    record {
-      implements = on_copy did.new.frame did.new.run did.new.steps did.new.host
-          did.ensures.implements;
-    }
-
 -- ---- calls that natives ask for
 
 pub calls_back::call_back-returns-in-Err : goal.calls_back::call_back-returns-in-Err
@@ -1110,7 +1130,7 @@ calls_back::call_back-returns-in-Function g t c =
     let m = setup g.H.Host.law c.args.context.program.now c.args.context.engine.now in
     let found = subst (λ (n : Needed). FindsBack m.program m.engine c.args.pos c.args.pointer
     c.args.values (Ok n)) c.in-Function.is c.in-Ok.ensures in
-    let called = c.call_method-outcome in
+    let called = c.run_method-outcome in
     record {
       called = back_called m c.args.pos c.args.pointer c.args.values c.args.run.now called.new.run
           c.args.steps.now called.new.steps c.args.host.now called.new.host called.result.0

@@ -15,7 +15,8 @@ returns-clause-complete c words input before now counts status ended =
 
 pub returns-clause-headline : goal.returns-clause-headline
 returns-clause-headline c words input before now counts status ended =
-    prints_core_end words input before now counts status
+    prints_core_end (c.core_agrees.ensures.means table_law) (c.core_agrees.ensures.core table_law)
+    words input before now counts status
     (beside words input before now counts status ended)
     (completed (c.one_meaning.ensures table_law) c.one_refusal.ensures words input before now counts
     status ended)

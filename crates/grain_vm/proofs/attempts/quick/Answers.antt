@@ -8,9 +8,11 @@ use Rattle.grain_vm.proofs.Tried.{tried_out, tried_or, tried_on}
 use Rattle.grain_vm.proofs.attempts.quick.Goals as goal
 
 pub fetch-requires : goal.fetch-requires
-fetch-requires g c =
-    typed_with c.args.context.program.now c.args.frame.now c.args.run.now c.height-depth.result
-    c.height-depth.ensures c.requires.runs
+fetch-requires g c = (
+  length c.args.run.now.stacks.cursors,
+  typed_with c.args.context.program.now c.args.frame.now c.args.run.now c.height-depth.result
+      c.height-depth.ensures c.requires.runs,
+)
 
 pub quick_const-requires-clause-typed : goal.quick_const-requires-clause-typed
 quick_const-requires-clause-typed g c =
@@ -19,10 +21,10 @@ quick_const-requires-clause-typed g c =
     let s = c.args.run.now in
     let same : length s.stacks.operands - 0 + 1 ≡ length s.stacks.operands + 1 = omega arith in
     subst (λ (k : ℕ). IsTypedAt p f.chunk (f.address + c.fetch.result.1) k
-    (tries_in s.stacks.handlers)) same
+    (length s.stacks.cursors) (tries_in s.stacks.handlers)) same
     (leads_typed g.H.Host.law p c.args.context.engine.now f s c.fetch.result.0
     (op.LoadConst c.in-LoadConst-default.constant) c.fetch.result.1 c.height-depth.result
-    c.in-LoadConst-default.is-0 c.height-depth.ensures c.requires.runs c.fetch.ensures.verified refl
+    c.in-LoadConst-default.is-0 c.height-depth.ensures c.requires.runs c.fetch.ensures.verified refl refl
     _ (inl refl))
 
 pub quick_local-requires-clause-typed : goal.quick_local-requires-clause-typed
@@ -32,10 +34,10 @@ quick_local-requires-clause-typed g c =
     let s = c.args.run.now in
     let same : length s.stacks.operands - 0 + 1 ≡ length s.stacks.operands + 1 = omega arith in
     subst (λ (k : ℕ). IsTypedAt p f.chunk (f.address + c.fetch.result.1) k
-    (tries_in s.stacks.handlers)) same
+    (length s.stacks.cursors) (tries_in s.stacks.handlers)) same
     (leads_typed g.H.Host.law p c.args.context.engine.now f s c.fetch.result.0
     (op.LoadLocal c.in-LoadLocal-default.slot) c.fetch.result.1 c.height-depth.result
-    c.in-LoadLocal-default.is-0 c.height-depth.ensures c.requires.runs c.fetch.ensures.verified refl
+    c.in-LoadLocal-default.is-0 c.height-depth.ensures c.requires.runs c.fetch.ensures.verified refl refl
     _ (inl refl))
 
 pub returns-in-LoadConst-default : goal.returns-in-LoadConst-default
@@ -43,7 +45,7 @@ returns-in-LoadConst-default g c =
     tried_on g.H.Host.law c.args.context.program.now c.args.context.engine.now c.args.frame.now
     c.args.run.now c.fetch.result.0 (op.LoadConst c.in-LoadConst-default.constant)
     c.fetch.result.1 c.height-depth.result c.in-LoadConst-default.is-0 c.height-depth.ensures
-    c.requires.runs c.fetch.ensures.verified c.fetch.ensures.read refl c.args.steps.now
+    c.requires.runs c.fetch.ensures.verified c.fetch.ensures.read refl refl c.args.steps.now
     c.quick_const.new.frame c.quick_const.new.run c.quick_const.new.steps c.quick_const.result
     c.of.result c.of.ensures c.quick_const.ensures.performs c.quick_const.ensures.undone
     ((λ name count e. cc), (λ count e. cc))
@@ -53,7 +55,7 @@ returns-in-LoadLocal-default g c =
     tried_on g.H.Host.law c.args.context.program.now c.args.context.engine.now c.args.frame.now
     c.args.run.now c.fetch.result.0 (op.LoadLocal c.in-LoadLocal-default.slot) c.fetch.result.1
     c.height-depth.result c.in-LoadLocal-default.is-0 c.height-depth.ensures c.requires.runs
-    c.fetch.ensures.verified c.fetch.ensures.read refl c.args.steps.now c.quick_local.new.frame
+    c.fetch.ensures.verified c.fetch.ensures.read refl refl c.args.steps.now c.quick_local.new.frame
     c.quick_local.new.run c.quick_local.new.steps c.quick_local.result
     c.of-in-LoadLocal-default.result c.of-in-LoadLocal-default.ensures
     c.quick_local.ensures.performs c.quick_local.ensures.undone (
@@ -69,7 +71,7 @@ returns-in-AssignLocalOp-default g c =
     (op.AssignLocalOp c.in-AssignLocalOp-default.slot c.in-AssignLocalOp-default.name
     c.in-AssignLocalOp-default.op) c.fetch.result.1 c.height-depth.result
     c.in-AssignLocalOp-default.is-0 c.height-depth.ensures c.requires.runs
-    c.fetch.ensures.verified c.fetch.ensures.read refl c.args.steps.now c.quick_assign.new.frame
+    c.fetch.ensures.verified c.fetch.ensures.read refl refl c.args.steps.now c.quick_assign.new.frame
     c.quick_assign.new.run c.quick_assign.new.steps c.quick_assign.result
     c.of-in-AssignLocalOp-default.result c.of-in-AssignLocalOp-default.ensures
     c.quick_assign.ensures.performs c.quick_assign.ensures.undone (
@@ -88,7 +90,7 @@ returns-in-Jump-default g c =
     tried_or g.H.Host.law c.args.context.program.now c.args.context.engine.now c.args.frame.now
     c.args.run.now c.fetch.result.0 (op.Jump c.in-Jump-default.target) c.fetch.result.1
     c.height-depth.result c.in-Jump-default.is-0 c.height-depth.ensures c.requires.runs
-    c.fetch.ensures.verified c.fetch.ensures.read refl c.args.steps.now c.quick_jump-done.new.frame
+    c.fetch.ensures.verified c.fetch.ensures.read refl refl c.args.steps.now c.quick_jump-done.new.frame
     c.quick_jump-done.new.run c.quick_jump-done.new.steps c.quick_jump-done.result
     c.in-Jump-default.target c.or.result c.or.ensures
     c.quick_jump-done.ensures.performs c.quick_jump-done.ensures.undone (_, at)
@@ -98,7 +100,7 @@ returns-in-JumpIfFalse-default g c =
     tried_out g.H.Host.law c.args.context.program.now c.args.context.engine.now c.args.frame.now
     c.args.run.now c.fetch.result.0 (op.JumpIfFalse c.in-JumpIfFalse-default.target)
     c.fetch.result.1 c.height-depth.result c.in-JumpIfFalse-default.is-0 c.height-depth.ensures
-    c.requires.runs c.fetch.ensures.verified c.fetch.ensures.read refl c.args.steps.now
+    c.requires.runs c.fetch.ensures.verified c.fetch.ensures.read refl refl c.args.steps.now
     c.quick_jump_if.new.frame c.quick_jump_if.new.run c.quick_jump_if.new.steps
     c.quick_jump_if.result c.of-in-JumpIfFalse-default.result
     c.of-in-JumpIfFalse-default.ensures c.quick_jump_if.ensures.implements
@@ -109,7 +111,7 @@ returns-in-JumpIfTrue-default g c =
     tried_out g.H.Host.law c.args.context.program.now c.args.context.engine.now c.args.frame.now
     c.args.run.now c.fetch.result.0 (op.JumpIfTrue c.in-JumpIfTrue-default.target)
     c.fetch.result.1 c.height-depth.result c.in-JumpIfTrue-default.is-0 c.height-depth.ensures
-    c.requires.runs c.fetch.ensures.verified c.fetch.ensures.read refl c.args.steps.now
+    c.requires.runs c.fetch.ensures.verified c.fetch.ensures.read refl refl c.args.steps.now
     c.quick_jump_if-in-JumpIfTrue-default.new.frame
     c.quick_jump_if-in-JumpIfTrue-default.new.run
     c.quick_jump_if-in-JumpIfTrue-default.new.steps c.quick_jump_if-in-JumpIfTrue-default.result
@@ -123,7 +125,7 @@ returns-in-CallOp-default g c =
     c.args.run.now c.fetch.result.0
     (op.CallOp c.in-CallOp-default.name c.in-CallOp-default.count c.in-CallOp-default.token)
     c.fetch.result.1 c.height-depth.result c.in-CallOp-default.is-0 c.height-depth.ensures
-    c.requires.runs c.fetch.ensures.verified c.fetch.ensures.read refl c.args.steps.now
+    c.requires.runs c.fetch.ensures.verified c.fetch.ensures.read refl refl c.args.steps.now
     c.quick_op.new.frame c.quick_op.new.run c.quick_op.new.steps c.quick_op.result
     c.of-in-CallOp-default.result c.of-in-CallOp-default.ensures c.quick_op.ensures.performs
     c.quick_op.ensures.undone ((λ name count e. cc), (λ count e. cc))
@@ -134,14 +136,14 @@ quick_op-requires-clause-typed g c =
     c.args.run.now c.fetch.result.0
     (op.CallOp c.in-CallOp-default.name c.in-CallOp-default.count c.in-CallOp-default.token)
     c.fetch.result.1 c.height-depth.result c.in-CallOp-default.is-0 c.height-depth.ensures
-    c.requires.runs c.fetch.ensures.verified refl _ (inl refl)
+    c.requires.runs c.fetch.ensures.verified refl refl _ (inl refl)
 
 pub returns-in-Return-default : goal.returns-in-Return-default
 returns-in-Return-default g c =
     λ host. stepped g.H.Host.law c.args.context.program.now c.args.context.engine.now
     c.args.frame.now c.args.run.now c.fetch.result.0 op.Return c.fetch.result.1
     c.height-depth.result c.in-Return-default.is-0 c.height-depth.ensures c.requires.runs
-    c.fetch.ensures.verified c.fetch.ensures.read refl c.args.steps.now c.args.frame.now
+    c.fetch.ensures.verified c.fetch.ensures.read refl refl c.args.steps.now c.args.frame.now
     c.return_value.new.self c.return_value.new.steps host host
     (rw c.return_value.ensures.over at
     (c.return_value.ensures.performs c.args.context.program.now c.args.context.engine.now host))

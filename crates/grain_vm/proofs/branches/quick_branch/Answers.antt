@@ -13,14 +13,15 @@ pub fetch-requires : goal.fetch-requires
 fetch-requires g c =
     let p = c.args.context.program.now in
     let e = c.args.context.engine.now in
-    let s = c.args.run.now in
-    typed_with p c.args.frame.now (judged s c.args.truth) (c.height-depth.result - 1)
-    (omega (
-      arith,
-      c.height-depth.ensures,
-      length_answered g.H.Host.law p e c.args.frame.now s
-          c.args.truth c.requires.two,
-    )) c.requires.runs
+    let s = c.args.run.now in (
+      length s.stacks.cursors,
+      typed_with p c.args.frame.now (judged s c.args.truth) (c.height-depth.result - 1)
+          (omega (
+            arith,
+            c.height-depth.ensures,
+            length_answered g.H.Host.law p e c.args.frame.now s c.args.truth c.requires.two,
+          )) c.requires.runs,
+    )
 
 pub returns-in-JumpIfFalse-default-clause-stepped :
     goal.returns-in-JumpIfFalse-default-clause-stepped
@@ -39,7 +40,7 @@ returns-in-JumpIfFalse-default-clause-stepped g c =
     (λ did host. stepped g.H.Host.law p e c.args.frame.now (judged s c.args.truth)
     c.fetch.result.0 (op.JumpIfFalse c.in-JumpIfFalse-default.target) c.fetch.result.1
     (c.height-depth.result - 1) c.in-JumpIfFalse-default.is-0 deep c.requires.runs
-    c.fetch.ensures.verified c.fetch.ensures.read refl (begun_one c.args.steps.now)
+    c.fetch.ensures.verified c.fetch.ensures.read refl refl (begun_one c.args.steps.now)
     c.branch_to.new.frame c.branch_to.new.run c.branch_to.new.steps host host (did host))
 
 pub returns-in-JumpIfTrue-default-clause-stepped : goal.returns-in-JumpIfTrue-default-clause-stepped
@@ -59,5 +60,5 @@ returns-in-JumpIfTrue-default-clause-stepped g c =
     (λ did host. stepped g.H.Host.law p e c.args.frame.now (judged s c.args.truth)
     c.fetch.result.0 (op.JumpIfTrue c.in-JumpIfTrue-default.target) c.fetch.result.1
     (c.height-depth.result - 1) c.in-JumpIfTrue-default.is-0 deep c.requires.runs
-    c.fetch.ensures.verified c.fetch.ensures.read refl (begun_one c.args.steps.now) to.new.frame
+    c.fetch.ensures.verified c.fetch.ensures.read refl refl (begun_one c.args.steps.now) to.new.frame
     to.new.run to.new.steps host host (did host))

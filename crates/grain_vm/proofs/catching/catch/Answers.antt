@@ -10,12 +10,19 @@ catch_by-requires-clause-operands g c =
     c.in-Some.handler c.requires.catches.1 c.in-Some.ensures.stands
     c.catching_handler.ensures.others).0
 
+pub catch_by-requires-clause-cursors : goal.catch_by-requires-clause-cursors
+catch_by-requires-clause-cursors g c =
+    (can_catch c.args.context.program.now c.requires.catches.0 c.args.run.now
+    c.catching_handler.new.run
+    c.in-Some.handler c.requires.catches.1 c.in-Some.ensures.stands
+    c.catching_handler.ensures.others).1
+
 pub catch_by-requires-clause-named : goal.catch_by-requires-clause-named
 catch_by-requires-clause-named g c =
     (can_catch c.args.context.program.now c.requires.catches.0 c.args.run.now
     c.catching_handler.new.run
     c.in-Some.handler c.requires.catches.1 c.in-Some.ensures.stands
-    c.catching_handler.ensures.others).1
+    c.catching_handler.ensures.others).2
 
 pub leave_by_fault-requires-in-Err-clause-unnoted :
     goal.leave_by_fault-requires-in-Err-clause-unnoted

@@ -6,8 +6,7 @@ use Rattle.grain_vm.proofs.catching.catch_by.Goals as goal
 pub returns-in_err-bind_caught-clause-same : goal.returns-in_err-bind_caught-clause-same
 returns-in_err-bind_caught-clause-same g c = λ f at.
     let s = c.args.run.now in
-    let s1 : Run g.row.H.Denot =
-    record s { stacks = c.cut.new.self; scope = c.rewind.new.self } in
+    let s1 = c.cut_back.new.run in
     bind_wants g.H.Host.law c.args.context.program.now c.args.context.engine.now f s s1
     c.args.steps.now c.args.host.now c.args.handler (search rules) (search rules)
     c.in_err-bind_caught.field-0.0 c.from_residual.result c.bind_caught.new.run
@@ -16,8 +15,7 @@ returns-in_err-bind_caught-clause-same g c = λ f at.
 pub returns-then-not-branch-clause-same : goal.returns-then-not-branch-clause-same
 returns-then-not-branch-clause-same g c = λ f at.
     let s = c.args.run.now in
-    let s1 : Run g.row.H.Denot =
-    record s { stacks = c.cut.new.self; scope = c.rewind.new.self } in
+    let s1 = c.cut_back.new.run in
     not_bound g.H.Host.law c.args.context.program.now c.args.context.engine.now f
     s s1 c.args.steps.now c.args.host.now c.args.handler (search rules) (search rules)
     c.in_ok-bind_caught.field-0 c.bind_caught.new.run c.bind_caught.new.steps c.if-not-branch.true
@@ -26,8 +24,7 @@ returns-then-not-branch-clause-same g c = λ f at.
 pub returns-in_err-push_handler-clause-same : goal.returns-in_err-push_handler-clause-same
 returns-in_err-push_handler-clause-same g c = λ f at.
     let s = c.args.run.now in
-    let s1 : Run g.row.H.Denot =
-    record s { stacks = c.cut.new.self; scope = c.rewind.new.self } in
+    let s1 = c.cut_back.new.run in
     let s3 : Run g.row.H.Denot =
     record c.take_fault.new.self { stacks = c.push_handler.new.self } in
     charge_stops g.H.Host.law c.args.context.program.now c.args.context.engine.now f
@@ -39,8 +36,7 @@ returns-in_err-push_handler-clause-same g c = λ f at.
 pub returns-clause-same : goal.returns-clause-same
 returns-clause-same g c = λ f at.
     let s = c.args.run.now in
-    let s1 : Run g.row.H.Denot =
-    record s { stacks = c.cut.new.self; scope = c.rewind.new.self } in
+    let s1 = c.cut_back.new.run in
     let s3 : Run g.row.H.Denot =
     record c.take_fault.new.self { stacks = c.push_handler.new.self } in
     charged_at g.H.Host.law c.args.context.program.now c.args.context.engine.now f
@@ -49,3 +45,4 @@ returns-clause-same g c = λ f at.
     (search rules) c.in_ok-bind_caught.ensures.same (search rules)
     c.charge.result c.charge.new.self c.charge.new.steps c.charge.new.host
     c.take_fault.result c.charge.ensures.same (search rules) (search rules) (search rules)
+    (search rules) (search rules)

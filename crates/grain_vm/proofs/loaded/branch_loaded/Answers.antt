@@ -18,14 +18,16 @@ fetch-requires g c =
     let f = c.args.frame.now in
     let s = loaded c.args.run.now c.args.integer in
     let long = length_loaded g.H.Host.law p e f c.args.run.now c.args.integer in
-    let two : 2 ≤ length s.stacks.operands = omega (arith, c.requires.one, long) in
-    typed_with p f (judged s c.args.truth) c.height-depth.result
-    (omega (
-      arith,
-      c.height-depth.ensures,
-      long,
-      length_answered g.H.Host.law p e f s c.args.truth two,
-    )) c.requires.runs
+    let two : 2 ≤ length s.stacks.operands = omega (arith, c.requires.one, long) in (
+      length s.stacks.cursors,
+      typed_with p f (judged s c.args.truth) c.height-depth.result
+          (omega (
+            arith,
+            c.height-depth.ensures,
+            long,
+            length_answered g.H.Host.law p e f s c.args.truth two,
+          )) c.requires.runs,
+    )
 
 pub returns-in-JumpIfFalse-default-clause-stepped :
     goal.returns-in-JumpIfFalse-default-clause-stepped
@@ -49,7 +51,7 @@ returns-in-JumpIfFalse-default-clause-stepped g c =
     (λ did host. stepped g.H.Host.law p e f (judged s c.args.truth)
     c.fetch.result.0 (op.JumpIfFalse c.in-JumpIfFalse-default.target) c.fetch.result.1
     c.height-depth.result c.in-JumpIfFalse-default.is-0 deep c.requires.runs
-    c.fetch.ensures.verified c.fetch.ensures.read refl (begun_one c.args.steps.now)
+    c.fetch.ensures.verified c.fetch.ensures.read refl refl (begun_one c.args.steps.now)
     to.new.frame to.new.run to.new.steps host host (did host))
 
 pub returns-in-JumpIfTrue-default-clause-stepped : goal.returns-in-JumpIfTrue-default-clause-stepped
@@ -73,5 +75,5 @@ returns-in-JumpIfTrue-default-clause-stepped g c =
     (λ did host. stepped g.H.Host.law p e f (judged s c.args.truth)
     c.fetch.result.0 (op.JumpIfTrue c.in-JumpIfTrue-default.target) c.fetch.result.1
     c.height-depth.result c.in-JumpIfTrue-default.is-0 deep c.requires.runs
-    c.fetch.ensures.verified c.fetch.ensures.read refl (begun_one c.args.steps.now) to.new.frame
+    c.fetch.ensures.verified c.fetch.ensures.read refl refl (begun_one c.args.steps.now) to.new.frame
     to.new.run to.new.steps host host (did host))

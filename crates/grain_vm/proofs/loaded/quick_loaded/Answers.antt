@@ -32,7 +32,7 @@ returns-in-AssignLocalOp-default-clause-stepped g c =
     tried did.result (rw (to_z-of_z w64 z z_fits) at did.ensures.performs)
     (λ does host. stepped g.H.Host.law p e f s c.fetch.result.0 o c.fetch.result.1 depth
     c.in-AssignLocalOp-default.is-0 deep c.requires.runs c.fetch.ensures.verified
-    c.fetch.ensures.read refl (begun_behind c.args.steps.now) did.new.frame did.new.run
+    c.fetch.ensures.read refl refl (begun_behind c.args.steps.now) did.new.frame did.new.run
     did.new.steps host host (does host))
 
 pub op_loaded-requires-clause-typed : goal.op_loaded-requires-clause-typed
@@ -54,7 +54,7 @@ op_loaded-requires-clause-typed g c =
     ) in
     rw (to_z-of_z w64 z z_fits)
     (leads_typed g.H.Host.law p e f s c.fetch.result.0 o c.fetch.result.1 depth
-    c.in-CallOp-default.is-0 deep c.requires.runs c.fetch.ensures.verified refl _ (inl refl))
+    c.in-CallOp-default.is-0 deep c.requires.runs c.fetch.ensures.verified refl refl _ (inl refl))
 
 pub returns-in-CallOp-default-clause-stepped : goal.returns-in-CallOp-default-clause-stepped
 returns-in-CallOp-default-clause-stepped g c =
@@ -77,5 +77,5 @@ returns-in-CallOp-default-clause-stepped g c =
     tried did.result (rw (to_z-of_z w64 z z_fits) at did.ensures.performs)
     (λ does host. stepped_on g.H.Host.law p e f s c.fetch.result.0 o c.fetch.result.1 depth
     c.in-CallOp-default.is-0 deep c.requires.runs c.fetch.ensures.verified
-    c.fetch.ensures.read refl (begun_behind c.args.steps.now) did.new.frame did.new.run
+    c.fetch.ensures.read refl refl (begun_behind c.args.steps.now) did.new.frame did.new.run
     did.new.steps host (does host))

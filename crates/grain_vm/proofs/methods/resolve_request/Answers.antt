@@ -15,7 +15,8 @@ returns-in-Compiled g c =
 
 pub returns-in-Err : goal.returns-in-Err
 returns-in-Err g c =
-    pointer_back c.args.context.program.now c.args.request c.in-Pointer.pointer c.in-Pointer.is
+    rw c.in-Err.ensures.back
+    (pointer_back c.args.context.program.now c.args.request c.in-Pointer.pointer c.in-Pointer.is)
 
 pub returns-in-Some : goal.returns-in-Some
 returns-in-Some g c =
@@ -27,8 +28,8 @@ returns-in-Some g c =
     ≡ Some c.in-Some.number = search rules in
     pointer_calls p r f c.in-Pointer.is c.in-Some.number c.in-Ok.all exact all
 
-pub returns : goal.returns
-returns g c =
+pub returns-in-None : goal.returns-in-None
+returns-in-None g c =
     let p = c.args.context.program.now in
     let r = c.args.request in
     let f = c.in-Pointer.pointer in

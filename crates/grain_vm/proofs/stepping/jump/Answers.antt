@@ -5,6 +5,6 @@ use Rattle.grain_vm.proofs.stepping.jump.Goals as goal
 
 pub returns : goal.returns
 returns g c = record {
-  stepped = arm {o = op.Jump c.args.target} refl refl c.requires.here.1 c.requires.runs
+  stepped = arm {o = op.Jump c.args.target} refl refl refl c.requires.here.1 c.requires.runs
       c.jump_to.ensures.implements;
 }

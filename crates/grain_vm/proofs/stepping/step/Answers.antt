@@ -1,13 +1,15 @@
 -- The instruction that was fetched is the one at which the frame stands.
-use Rattle.std.proofs.Common.{refl}
+use Rattle.std.proofs.Common.{length, refl}
 use Rattle.grain_frame.specs.lemmas.Arms.{ready, stands, typed_with}
 use Rattle.grain_vm.proofs.WaitsAhead.{turned}
 use Rattle.grain_vm.proofs.stepping.step.Goals as goal
 
 pub fetch-requires : goal.fetch-requires
-fetch-requires g c =
-    typed_with c.args.context.program.now c.args.frame.now c.args.run.now c.height-depth.result
-    c.height-depth.ensures c.requires.runs
+fetch-requires g c = (
+  length c.args.run.now.stacks.cursors,
+  typed_with c.args.context.program.now c.args.frame.now c.args.run.now c.height-depth.result
+      c.height-depth.ensures c.requires.runs,
+)
 
 pub perform-requires-clause-stands : goal.perform-requires-clause-stands
 perform-requires-clause-stands g c =
@@ -39,7 +41,7 @@ returns-in-CallOp-default g c =
     c.height-depth.result refl c.height-depth.ensures c.requires.runs c.fetch.ensures.verified
     c.fetch.ensures.read in
     record {
-      steps = turned refl (rw c.in-CallOp-default.is-0 at at) c.requires.runs c.call_op.result
+      steps = turned refl refl (rw c.in-CallOp-default.is-0 at at) c.requires.runs c.call_op.result
           c.of.result c.of.ensures c.call_op.ensures.performs;
     }
 
@@ -51,7 +53,7 @@ returns-in-AssignLocalOp-default g c =
     c.height-depth.result refl c.height-depth.ensures c.requires.runs c.fetch.ensures.verified
     c.fetch.ensures.read in
     record {
-      steps = turned refl (rw c.in-AssignLocalOp-default.is-0 at at) c.requires.runs
+      steps = turned refl refl (rw c.in-AssignLocalOp-default.is-0 at at) c.requires.runs
           c.assign_local_op.result c.of-in-AssignLocalOp-default.result
           c.of-in-AssignLocalOp-default.ensures c.assign_local_op.ensures.performs;
     }
@@ -64,7 +66,34 @@ returns-in-AssignThisOp-default g c =
     c.height-depth.result refl c.height-depth.ensures c.requires.runs c.fetch.ensures.verified
     c.fetch.ensures.read in
     record {
-      steps = turned refl (rw c.in-AssignThisOp-default.is-0 at at) c.requires.runs
+      steps = turned refl refl (rw c.in-AssignThisOp-default.is-0 at at) c.requires.runs
           c.assign_this_op.result c.of-in-AssignThisOp-default.result
           c.of-in-AssignThisOp-default.ensures c.assign_this_op.ensures.performs;
     }
+
+pub returns-in-CallFnPtrMethod-default : goal.returns-in-CallFnPtrMethod-default
+returns-in-CallFnPtrMethod-default g c =
+    let at =
+    stands g.H.Host.law c.args.context.program.now c.args.context.engine.now c.args.frame.now
+    c.args.run.now c.fetch.result.0 c.fetch.result.0 c.fetch.result.1
+    c.height-depth.result refl c.height-depth.ensures c.requires.runs c.fetch.ensures.verified
+    c.fetch.ensures.read in
+    record { steps = (rw c.in-CallFnPtrMethod-default.is-0 at at, refl) }
+
+pub returns-in-CallFnPtrOnLocal-default : goal.returns-in-CallFnPtrOnLocal-default
+returns-in-CallFnPtrOnLocal-default g c =
+    let at =
+    stands g.H.Host.law c.args.context.program.now c.args.context.engine.now c.args.frame.now
+    c.args.run.now c.fetch.result.0 c.fetch.result.0 c.fetch.result.1
+    c.height-depth.result refl c.height-depth.ensures c.requires.runs c.fetch.ensures.verified
+    c.fetch.ensures.read in
+    record { steps = (rw c.in-CallFnPtrOnLocal-default.is-0 at at, refl) }
+
+pub returns-in-CallFnPtrOnThis-default : goal.returns-in-CallFnPtrOnThis-default
+returns-in-CallFnPtrOnThis-default g c =
+    let at =
+    stands g.H.Host.law c.args.context.program.now c.args.context.engine.now c.args.frame.now
+    c.args.run.now c.fetch.result.0 c.fetch.result.0 c.fetch.result.1
+    c.height-depth.result refl c.height-depth.ensures c.requires.runs c.fetch.ensures.verified
+    c.fetch.ensures.read in
+    record { steps = (rw c.in-CallFnPtrOnThis-default.is-0 at at, refl) }

@@ -32,7 +32,7 @@ returns-then-len-context g c =
     let read = value_there (flat s.cells (top s.stacks.operands).value) readable in
     record {
       implements = λ host. raises_here g.H.Host.law p c.args.context.engine.now f s
-          c.raise_at.new.self c.args.steps.now c.raise_at.new.steps host
-          (Plain TooManyVariables (position_of p f.address)) (Ok c.raise_at.result)
-          c.raise_at.ensures c.requires.ready.inside (λ stop u place. rw read.1 (search rules));
+          c.too_many_variables.new.self c.args.steps.now c.too_many_variables.new.steps host
+          (Plain TooManyVariables (position_of p f.address)) (Ok c.too_many_variables.result)
+          c.too_many_variables.ensures c.requires.ready.inside (λ stop u place. rw read.1 (search rules));
     }

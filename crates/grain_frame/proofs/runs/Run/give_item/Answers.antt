@@ -1,7 +1,6 @@
-use Rattle.std.proofs.Common.{rules, ◌≡◌, [], ◌∷◌, true, false, FitsSigned, w64, refl}
+use Rattle.std.proofs.Common.{rules, ◌≡◌, [], true, false, FitsSigned, w64, refl}
 use Rattle.std.proofs.lemmas.Int.{to_z-of_z}
-use Rattle.std.specs.Prelude.{is_some}
-use Rattle.grain_value.specs.Cells.{flat}
+use Rattle.grain_value.specs.Operands.{read_write}
 use Rattle.grain_fault.specs.Problems.{Plain, DataRace}
 use Rattle.grain_program.specs.View.{position_of}
 use Rattle.grain_means.specs.Rules.{race_text}
@@ -49,11 +48,13 @@ pub returns : goal.returns
 returns g c =
     let fits : FitsSigned w64 c.args.count = search rules in
     let taken = rw (to_z-of_z w64 c.args.count fits) at (c.take_item-item.ensures) in
+    let held : c.read_write.result ≡ read_write c.in_ok-value.value =
+    λ i. record { value = c.read_write.ensures.0 i; read_only = c.read_write.ensures.1 i } in
     record {
       implements = λ target t ts first host. rw c.mark.ensures (gives g.H.Host.law
           c.args.context.program.now c.args.context.engine.now c.args.frame.now c.args.self.now
           c.args.steps.now host t ts c.args.count c.args.next target c.take_item-item.new.self
           c.take_item-item.result c.in_ok-value.value c.push.new.self first taken
           c.in_ok-value.ensures c.requires.there
-          (rw c.read_write.ensures at c.push.ensures) c.requires.begins);
+          (rw held at c.push.ensures) c.requires.begins);
     }

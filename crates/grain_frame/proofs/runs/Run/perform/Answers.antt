@@ -332,9 +332,9 @@ returns-in-IterNext g c = record {
       c.iter_next.ensures.implements;
 }
 
-pub iter_next-requires-clause-there-in-IterNextIndexed :
-    goal.iter_next-requires-clause-there-in-IterNextIndexed
-iter_next-requires-clause-there-in-IterNextIndexed g c =
+pub iter_next-requires-in-IterNextIndexed-clause-there :
+    goal.iter_next-requires-in-IterNextIndexed-clause-there
+iter_next-requires-in-IterNextIndexed-clause-there g c =
     (verified c.in-IterNextIndexed.is c.requires.stands).cursor
 
 pub returns-in-IterNextIndexed : goal.returns-in-IterNextIndexed

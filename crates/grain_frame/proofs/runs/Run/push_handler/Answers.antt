@@ -1,5 +1,4 @@
 use Rattle.std.proofs.Common.{◌≡◌, ◌∷◌, rules}
-use Rattle.grain_stack.specs.Views.{StacksView}
 use Rattle.grain_frame.specs.Handling.{armed}
 use Rattle.grain_frame.proofs.Handled.{pushes}
 use Rattle.grain_frame.proofs.runs.Run.push_handler.Goals as goal

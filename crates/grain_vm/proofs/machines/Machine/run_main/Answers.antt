@@ -65,11 +65,11 @@ returns-clause-core g c =
     (is_out back) (abstraction after steps c.run_main-back.new.host) (finished_with back)) first
     (rw c.with_callbacks-engine.ensures at c.run_main-back.ensures.goes)) in
     λ called core. rw (← c.self.view_is, c.with_memory_fault.ensures)
-    (ends_as_core c.one_meaning.ensures g.H.Host.law c.args.program.now c.self.inside.engine.now b
-    (with_memory_fault back)
+    (ends_as_core c.one_meaning.ensures c.core_agrees.ensures.means c.core_agrees.ensures.core
+    g.H.Host.law c.args.program.now c.self.inside.engine.now b (with_memory_fault back)
     (ending c.counted.ensures g.H.Host.law c.args.program.now engine b after.stacks.trace after.scope
     after.cells c.run_main-back.new.host after.count after.level steps.begun steps.passed)
-    steps.begun c.args.callbacks called
+    steps.begun c.args.callbacks called c.run_main-back.ensures.valid core
     (evaluated c.counted.ensures g.H.Host.law c.args.program.now engine b after.stacks.trace
     after.scope after.cells c.run_main-back.new.host after.count after.level steps.begun
     steps.passed back goes))

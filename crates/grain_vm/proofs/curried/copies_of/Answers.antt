@@ -2,7 +2,7 @@
 use Rattle.std.proofs.Common.{rules, ◌≡◌, ◌∷◌, [], ◌++◌}
 use Rattle.grain_value.specs.View.{tree}
 use Rattle.grain_vm.proofs.Reading.{copied_on}
-use Rattle.grain_vm.proofs.methods.with_curried.Goals as goal
+use Rattle.grain_vm.proofs.curried.copies_of.Goals as goal
 
 pub curried-preserved : goal.curried-preserved
 curried-preserved c =

@@ -1,0 +1,169 @@
+//! Instructions that the loop does not try first and that call no function of their own accord: plain
+//! ones, and apart from them those that walk along a place or may wait for a native.
+
+ghost use Rattle.std.specs.Prelude.{◌≡◌};
+ghost use Rattle.grain_frame.specs.Abstraction.{Runs, StandsAt, Stepped, setup_of, moment};
+ghost use Rattle.grain_vm.specs.Attempts.{CallsNoFunction, CallsNothing, StandsApart};
+ghost use Rattle.grain_vm.specs.Methods.{NoneAbove};
+ghost use Rattle.grain_program.specs.declared.code.instruction_set.Op.TheVariants as op;
+
+use crate::asks::{call_native, wait_for_native};
+use crate::attempts::{Apart, Pending, pending_at};
+use crate::finding::{Found, find_pointed};
+use crate::method_runs::{call_apart, call_with, walk_chain};
+use crate::stepping::{Turn, step, step_plain};
+use grain_frame::{Activation, Context, Progress, Run};
+use grain_global::Steps;
+use grain_host::Host;
+use grain_value::OutOfMemory;
+use std::sync::ledger::Ledger;
+
+// Does an instruction apart from the loop. It is built into the loop at one place, since each copy of
+// the frame costs every call.
+#[cycle(run)]
+#[inline(always)]
+pub(crate) fn step_apart<H: Host, L: Ledger>(
+    run: &mut Run<H>,
+    context: Context<'_>,
+    host: &mut H,
+    steps: &mut Steps<L>,
+    frame: &mut Activation,
+    apart: Apart,
+) -> Result<Progress, OutOfMemory>
+    requires runs { Runs context.program.now frame.old run.old }
+    requires none { NoneAbove run.old.level run.old.receivers }
+    requires stands { StandsApart context.program.now frame.old run.old apart }
+    ensures stepped { Stepped (setup_of H.law context.entry)
+        (moment frame.old run.old steps.old host.old) result
+        (moment frame.new run.new steps.new host.new) }
+{
+    match apart {
+        Apart::Pointer { count, next } => {
+            call_pointer(run, context, host, steps, frame, count, next)
+        }
+        Apart::Other => step_or_walk(run, context, host, steps, frame),
+    }
+}
+
+// `call_fn_ptr`: calls the pointer under the last `count` operands.
+#[cycle(run)]
+#[cold]
+#[inline(never)]
+fn call_pointer<H: Host, L: Ledger>(
+    run: &mut Run<H>,
+    context: Context<'_>,
+    host: &mut H,
+    steps: &mut Steps<L>,
+    frame: &mut Activation,
+    count: u8,
+    next: usize,
+) -> Result<Progress, OutOfMemory>
+    requires runs { Runs context.program.now frame.old run.old }
+    requires none { NoneAbove run.old.level run.old.receivers }
+    requires stands { StandsAt context.program.now frame.old run.old (op.CallFnPtr count) next }
+    ensures stepped { Stepped (setup_of H.law context.entry)
+        (moment frame.old run.old steps.old host.old) result
+        (moment frame.new run.new steps.new host.new) }
+{
+    match find_pointed(run, context, host, steps, frame, count, next) {
+        Err(e) => Err(e),
+        Ok(found) => match found {
+            Found::Done(progress) => Ok(progress),
+            Found::Function { number, next } => {
+                let function = context.program.function_at(number);
+                call_apart(run, context, host, steps, frame, function, next)
+            }
+        },
+    }
+}
+
+// Does the instruction at which the frame stands, which is no call of a function by its name, and not
+// `call_fn_ptr`.
+#[cycle(run)]
+#[cold]
+#[inline(never)]
+fn step_or_walk<H: Host, L: Ledger>(
+    run: &mut Run<H>,
+    context: Context<'_>,
+    host: &mut H,
+    steps: &mut Steps<L>,
+    frame: &mut Activation,
+) -> Result<Progress, OutOfMemory>
+    requires runs { Runs context.program.now frame.old run.old }
+    requires none { NoneAbove run.old.level run.old.receivers }
+    requires no_function { CallsNoFunction context.program.now frame.old }
+    ensures stepped { Stepped (setup_of H.law context.entry)
+        (moment frame.old run.old steps.old host.old) result
+        (moment frame.new run.new steps.new host.new) }
+{
+    match step_plain(run, context, host, steps, frame) {
+        Err(e) => Err(e),
+        Ok(done) => match done {
+            Some(progress) => Ok(progress),
+            None => call_or_walk(run, context, host, steps, frame),
+        },
+    }
+}
+
+// The same, in a function of its own: what a chain needs, or an instruction that waits for a native, costs
+// a plain instruction nothing.
+#[cycle(run)]
+#[cold]
+#[inline(never)]
+fn call_or_walk<H: Host, L: Ledger>(
+    run: &mut Run<H>,
+    context: Context<'_>,
+    host: &mut H,
+    steps: &mut Steps<L>,
+    frame: &mut Activation,
+) -> Result<Progress, OutOfMemory>
+    requires runs { Runs context.program.now frame.old run.old }
+    requires none { NoneAbove run.old.level run.old.receivers }
+    requires no_function { CallsNoFunction context.program.now frame.old }
+    ensures stepped { Stepped (setup_of H.law context.entry)
+        (moment frame.old run.old steps.old host.old) result
+        (moment frame.new run.new steps.new host.new) }
+{
+    match pending_at(run, context, frame) {
+        Pending::Call { name, count, next } => {
+            call_native(run, context, host, steps, frame, name, count, next)
+        }
+        Pending::Pointer { .. } => unreachable!(),
+        Pending::Other => walk_or_wait(run, context, host, steps, frame),
+    }
+}
+
+// Does the instruction at which the frame stands, which is neither `call` nor `call_fn_ptr`.
+#[cycle(run)]
+#[cold]
+#[inline(never)]
+fn walk_or_wait<H: Host, L: Ledger>(
+    run: &mut Run<H>,
+    context: Context<'_>,
+    host: &mut H,
+    steps: &mut Steps<L>,
+    frame: &mut Activation,
+) -> Result<Progress, OutOfMemory>
+    requires runs { Runs context.program.now frame.old run.old }
+    requires none { NoneAbove run.old.level run.old.receivers }
+    requires calls_nothing { CallsNothing context.program.now frame.old }
+    ensures stepped { Stepped (setup_of H.law context.entry)
+        (moment frame.old run.old steps.old host.old) result
+        (moment frame.new run.new steps.new host.new) }
+{
+    match step(run, context, host, steps, frame) {
+        Err(e) => Err(e),
+        Ok(turn) => match turn {
+            Turn::Done(progress) => Ok(progress),
+            Turn::Waits(waiting) => wait_for_native(run, context, host, steps, frame, waiting),
+            Turn::Chain { index, next } => {
+                walk_chain(run, context, host, steps, frame, index, next)
+            }
+            Turn::Receiver {
+                destination,
+                count,
+                next,
+            } => call_with(run, context, host, steps, frame, destination, count, next),
+        },
+    }
+}
