@@ -44,6 +44,7 @@ module _ (o : Op) (plain : is_plain o ≡ true) where
     (λ slot name k e. other (op.AssignLocalOp slot name k) e refl),
     (λ k e. other (op.AssignThisOp k) e refl),
     (λ name count token e. other (op.CallOp name count token) e refl),
+    (λ e. other op.InterpolateAppend e refl),
   )
 
 -- what was done after nothing was done

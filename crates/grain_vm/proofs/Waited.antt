@@ -74,6 +74,7 @@ state_here s n host r (have.Cell c h) lends = refl
 state_here s n host (rest.Push count next) (have.Apart h) lends = absurd cc
 state_here s n host (rest.Assign a) (have.Apart h) lends = absurd lends
 state_here s n host (rest.Operate a) (have.Apart h) lends = absurd cc
+state_here s n host (rest.Show name next) (have.Apart h) lends = absurd cc
 
 pub state_back : {H : Type 0} (s s' : Run H) (n : StepsView) (host : H) (r : Rest) (l : Loan)
     (left : Option Held) → Lends r l → NativeOver l s s' →
@@ -86,6 +87,7 @@ state_back s s' n host r (have.Cell c h) left lends over =
 state_back s s' n host (rest.Push count next) (have.Apart h) left lends over = absurd cc
 state_back s s' n host (rest.Assign a) (have.Apart h) left lends over = absurd lends
 state_back s s' n host (rest.Operate a) (have.Apart h) left lends over = absurd cc
+state_back s s' n host (rest.Show name next) (have.Apart h) left lends over = absurd cc
 
 -- ---- what the instruction rests on
 
@@ -150,12 +152,24 @@ module _ {H : Type 0} (p : View) (f : Activation) (s s' : Run H) (l : Loan)
       (goes_over a (can_over s s' a l lends over) leads.0, leads.1, leads.2, leads.3)
   leads_over (rest.Operate a) takes gives ts lends leads =
       (goes_operate a l lends over leads.0, leads.1, leads.2, leads.3)
+  leads_over (rest.Show name next) takes gives ts lends leads = (
+    (
+      omega (arith, leads.0.0, long),
+      omega (arith, leads.0.1, operands),
+      omega (arith, leads.0.2, operands, over.room),
+      leads.0.3,
+    ),
+    leads.1,
+    leads.2,
+    leads.3,
+  )
 
 pub leads_inside : {H : Type 0} (p : View) (f : Activation) (s : Run H) (r : Rest)
     (takes gives : ℕ) (ts : List ℕ) → LeadsTo p f s r takes gives ts → f.base ≤ length s.scope
 leads_inside p f s (rest.Push count next) takes gives ts leads = leads.0
 leads_inside p f s (rest.Assign a) takes gives ts leads = leads.0.inside
 leads_inside p f s (rest.Operate a) takes gives ts leads = leads.0.inside
+leads_inside p f s (rest.Show name next) takes gives ts leads = leads.0.0
 
 -- ---- the frame
 

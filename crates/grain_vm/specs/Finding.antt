@@ -111,6 +111,7 @@ is_plain (op.CallFnPtrOnThis count) = false
 is_plain (op.CallOp name count token) = false
 is_plain (op.AssignLocalOp slot name k) = false
 is_plain (op.AssignThisOp k) = false
+is_plain op.InterpolateAppend = false
 is_plain o = true
 
 -- what came of the instruction at which the frame stands, where only a plain one is done

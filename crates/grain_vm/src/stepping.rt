@@ -81,6 +81,7 @@ fn is_plain(op: Op) -> bool
         Op::CallOp(_, _, _) => false,
         Op::AssignLocalOp(_, _, _) => false,
         Op::AssignThisOp(_) => false,
+        Op::InterpolateAppend => false,
         _ => true,
     }
 }
@@ -172,6 +173,9 @@ pub(crate) fn step<H: Host, L: Ledger>(
         )),
         (Op::AssignThisOp(op), width) => {
             Turn::of(run.assign_this_op(context, host, steps, frame, op, address + width))
+        }
+        (Op::InterpolateAppend, width) => {
+            Turn::of(run.interpolate_append(context, host, steps, frame, address + width))
         }
         (op, width) => match run.perform(context, host, steps, frame, op, address + width) {
             Err(e) => Err(e),

@@ -28,11 +28,12 @@ const SUM: &str = "grain 1\nconst 0\nconst 1\nconst 10\nname \"s\"\nname \"i\"\n
 
 const USAGE: &str = "usage: run, check, list or self N\n";
 
-/// A call of the program: its word, what its source holds, at which of their calls the source and
-/// the sink fail, and the sink's room. Calls are numbered from 1, so the number 0 is none.
+/// A call of the program: its words with a blank between each two, what its source holds, at which of
+/// their calls the source and the sink fail, and the sink's room. Calls are numbered from 1, so the
+/// number 0 is none.
 #[derive(Clone, Copy)]
 struct Call {
-    word: &'static str,
+    words: &'static str,
     listing: &'static str,
     source_fails: [u64; 2],
     sink_fails: [u64; 2],
@@ -41,7 +42,7 @@ struct Call {
 
 /// The sum, over streams that do not fail.
 const RUN: Call = Call {
-    word: "run",
+    words: "run",
     listing: SUM,
     source_fails: [0, 0],
     sink_fails: [0, 0],
@@ -50,9 +51,19 @@ const RUN: Call = Call {
 
 /// The same with a word that is no command.
 const WALK: Call = Call {
-    word: "walk",
+    words: "walk",
     ..RUN
 };
+
+/// The listing of three functions that the program makes, over a source that says no listing.
+const SELF: Call = Call {
+    words: "self 3",
+    listing: "no listing",
+    ..RUN
+};
+
+/// What is written of it: 1 with 0, 1 and 2 added.
+const OF_SELF: &str = "value 4 operations 3\n";
 
 fn numbers(rt: &impl Abort, alloc: Global, all: &[u64]) -> CallNumbers {
     let mut numbers = CallNumbers::new(alloc);
@@ -83,19 +94,21 @@ fn exit_of<S: Source>(
     run_args::<S, MemorySink, Brand>(alloc, args, source, sink, Blank::new(8))
 }
 
-/// The arguments of the program with one word.
-fn args_of(rt: &impl Abort, alloc: Global, word: &str) -> Args {
+/// The arguments of the program with these words.
+fn args_of(rt: &impl Abort, alloc: Global, words: &str) -> Args {
     let program = String::from_str(alloc, "grain_run").expect(rt, "memory");
-    let word = String::from_str(alloc, word).expect(rt, "memory");
     let mut args = Vec::new(alloc);
     args.push(program).expect(rt, "memory");
-    args.push(word).expect(rt, "memory");
+    for word in words.split(' ') {
+        let word = String::from_str(alloc, word).expect(rt, "memory");
+        args.push(word).expect(rt, "memory");
+    }
     args.into_iter()
 }
 
 /// Compares the status of a call, and what it writes.
 fn check(rt: &(impl Abort + Eprint), alloc: Global, call: Call, status: u8, text: &str) {
-    let args = args_of(rt, alloc, call.word);
+    let args = args_of(rt, alloc, call.words);
     let mut source = source_of(rt, alloc, call.listing, &call.source_fails);
     let mut sink = sink_of(rt, alloc, call.room, &call.sink_fails);
     let exit = exit_of(alloc, Ok(args), &mut source, &mut sink);
@@ -119,8 +132,8 @@ fn words_and_lines_that_are_not_there(rt: HostRuntime) {
     };
     let text = "listing line 2: not built\n";
     check(&rt, rt.alloc(), not_built, 3, text);
-    for word in ["walk", "", "check", "Run"] {
-        check(&rt, rt.alloc(), Call { word, ..RUN }, 2, USAGE);
+    for words in ["walk", "", "check", "Run", "run run"] {
+        check(&rt, rt.alloc(), Call { words, ..RUN }, 2, USAGE);
     }
 }
 
@@ -135,6 +148,9 @@ fn the_source_or_the_sink_fails(rt: HostRuntime) {
         (RUN, [0, 0], [1, 0], 6, ""),
         (RUN, [0, 0], [2, 3], 0, "value 55\n"),
         (WALK, [0, 0], [5, 1], 6, ""),
+        (SELF, [1, 0], [0, 0], 0, OF_SELF),
+        (SELF, [0, 0], [1, 0], 6, ""),
+        (SELF, [0, 0], [2, 0], 0, OF_SELF),
     ];
     for (call, source_fails, sink_fails, status, text) in rows {
         let call = Call {
@@ -154,6 +170,9 @@ fn the_sink_has_too_little_room(rt: HostRuntime) {
         ("run", SUM, 8, 6, "value 55"),
         ("run", SUM, 9, 0, "value 55\n"),
         ("walk", SUM, 10, 6, "usage: run"),
+        ("self 3", SUM, 20, 6, "value 4 operations 3"),
+        ("self 3", SUM, 21, 0, OF_SELF),
+        ("self 0", SUM, 5, 6, "usage"),
         ("run", "grain 2\n", 12, 6, "listing line"),
         ("run", "grain 1\nmain 0\nend\n", 7, 6, "refused"),
         (
@@ -164,15 +183,61 @@ fn the_sink_has_too_little_room(rt: HostRuntime) {
             "fault",
         ),
     ];
-    for (word, listing, room, status, text) in rows {
+    for (words, listing, room, status, text) in rows {
         let call = Call {
-            word,
+            words,
             listing,
             room,
             ..RUN
         };
         check(&rt, rt.alloc(), call, status, text);
     }
+}
+
+/// Each function of the listing that `self` makes adds its number, from 0 on, to what the ones before
+/// it have given, the first to 1; and each call of one is an operation.
+#[test]
+fn self_runs_a_listing_of_so_many_functions(rt: HostRuntime) {
+    let rows = [
+        ("self 1", "value 1 operations 1\n"),
+        ("self 2", "value 2 operations 2\n"),
+        ("self 3", OF_SELF),
+        ("self 10", "value 46 operations 10\n"),
+        ("self 300", "value 44851 operations 300\n"),
+    ];
+    for (words, text) in rows {
+        check(&rt, rt.alloc(), Call { words, ..SELF }, 0, text);
+    }
+}
+
+#[test]
+fn self_takes_one_number_from_1_to_10000(rt: HostRuntime) {
+    let rows = [
+        "self",
+        "self 0",
+        "self 01",
+        "self 10001",
+        "self x",
+        "self -1",
+        "self +1",
+        "self 1.0",
+        "self ",
+        "self 1 ",
+        "self  1",
+        "self 1 2",
+        "Self 1",
+        "self1",
+        "1 self",
+    ];
+    for words in rows {
+        check(&rt, rt.alloc(), Call { words, ..SELF }, 2, USAGE);
+    }
+    let past_64_bits = "self 18446744073709551617";
+    let words = Call {
+        words: past_64_bits,
+        ..SELF
+    };
+    check(&rt, rt.alloc(), words, 2, USAGE);
 }
 
 #[test]

@@ -71,6 +71,19 @@ returns-in-AssignThisOp-default g c =
           c.of-in-AssignThisOp-default.ensures c.assign_this_op.ensures.performs;
     }
 
+pub returns-in-InterpolateAppend-default : goal.returns-in-InterpolateAppend-default
+returns-in-InterpolateAppend-default g c =
+    let at =
+    stands g.H.Host.law c.args.context.program.now c.args.context.engine.now c.args.frame.now
+    c.args.run.now c.fetch.result.0 c.fetch.result.0 c.fetch.result.1
+    c.height-depth.result refl c.height-depth.ensures c.requires.runs c.fetch.ensures.verified
+    c.fetch.ensures.read in
+    record {
+      steps = turned refl refl (rw c.in-InterpolateAppend-default.is-0 at at) c.requires.runs
+          c.interpolate_append.result c.of-in-InterpolateAppend-default.result
+          c.of-in-InterpolateAppend-default.ensures c.interpolate_append.ensures.performs;
+    }
+
 pub returns-in-CallFnPtrMethod-default : goal.returns-in-CallFnPtrMethod-default
 returns-in-CallFnPtrMethod-default g c =
     let at =
