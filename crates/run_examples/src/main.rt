@@ -41,7 +41,7 @@ enum ExampleHost {
 
 /// The examples, with their hosts. NAME.grain is the listing, and NAME.out the report that is
 /// expected.
-const EXAMPLES: [(&str, ExampleHost); 12] = [
+const EXAMPLES: [(&str, ExampleHost); 13] = [
     ("sum", ExampleHost::Table),
     ("fibonacci", ExampleHost::Table),
     ("limit", ExampleHost::Table),
@@ -49,6 +49,7 @@ const EXAMPLES: [(&str, ExampleHost); 12] = [
     ("caught", ExampleHost::Table),
     ("closure", ExampleHost::Table),
     ("account", ExampleHost::Table),
+    ("invoice", ExampleHost::Table),
     ("prices", ExampleHost::Prices),
     ("properties", ExampleHost::Prices),
     ("discounts", ExampleHost::Prices),
