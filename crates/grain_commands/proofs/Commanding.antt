@@ -1,7 +1,9 @@
 -- Which words are commands, and what a command runs.
-use Rattle.std.proofs.Common.{◌≡◌, ℕ, Bool, true, false, List, [], ◌∷◌, Option, Some, None, Result, IfSome, refl, sym, subst}
+use Rattle.std.proofs.Common.{◌≡◌, ℕ, Bool, true, false, List, [], ◌∷◌, Option, Some, None, Result, Ok, Err, IfOk, IfSome, refl, sym, subst}
+use Rattle.grain_value.specs.declared.memory.OutOfMemory.{OutOfMemory}
 use Rattle.grain_listing.specs.Reading.{ListingView, reads}
 use Rattle.grain_listing.specs.declared.reasons.BadLine.{BadLine}
+use Rattle.grain_commands.specs.declared.replies.Reply.{Reply}
 use Rattle.grain_commands.specs.Replies.{Answers, Replies, is_command, is_run, listing_for, no_command, replied, tells_operations, usage_text}
 use Rattle.grain_commands.specs.SelfListings.{self_listing, self_number}
 
@@ -54,3 +56,19 @@ pub of_self : (words : List (List ℕ)) (input : Option (List ℕ)) (n : ℕ)
     Replies true said status text → Answers words input status text
 of_self words input n said status text run some is reply =
     replied (rw (run, some) refl) (rw some is) (rw some reply)
+
+-- the same of a reply, unless memory ran out
+pub unknown_answered : (words : List (List ℕ)) (input : Option (List ℕ)) (r : Result Reply OutOfMemory) →
+    is_run words ≡ false → self_number words ≡ None → IfOk r (λ x. x.status ≡ 2) →
+    IfOk r (λ x. x.text ≡ usage_text) → IfOk r (λ x. Answers words input x.status x.text)
+unknown_answered words input (Err m) run none status text = tt
+unknown_answered words input (Ok x) run none status text =
+    rw (status, text) (unknown words input run none)
+
+pub self_answered : (words : List (List ℕ)) (input : Option (List ℕ)) (n : ℕ)
+    (r : Result Reply OutOfMemory) → is_run words ≡ false → self_number words ≡ Some n →
+    IfOk r (λ x. Replies true (reads (self_listing n)) x.status x.text) →
+    IfOk r (λ x. Answers words input x.status x.text)
+self_answered words input n (Err m) run some reply = tt
+self_answered words input n (Ok x) run some reply =
+    of_self words input n (reads (self_listing n)) x.status x.text run some refl reply
