@@ -23,16 +23,24 @@ pub fn self_number(alloc: Global, words: &[String]) -> Result<Option<u64>, OutOf
     }
 }
 
+// The number that the characters say, from 1 on.
+fn number_in(word: &[char]) -> Option<u64>
+    ensures number { result ≡ positive (number 10000 word.now) }
+    ensures small { IfSome result (λ n. n ≤ 10000) }
+{
+    match number(MOST_FUNCTIONS, word) {
+        Some(0) => None,
+        number => number,
+    }
+}
+
 // The number that a word says, from 1 on.
 fn number_of(alloc: Global, word: &str) -> Result<Option<u64>, OutOfMemory>
     ensures number { IfOk result (λ o. o ≡ positive (number 10000 (chars word.now))) }
     ensures small { IfOk result (λ o. IfSome o (λ n. n ≤ 10000)) }
 {
     let chars: Vec<char> = word.chars().collect(alloc)?;
-    Ok(match number(MOST_FUNCTIONS, chars.as_slice()) {
-        Some(0) => None,
-        number => number,
-    })
+    Ok(number_in(chars.as_slice()))
 }
 
 // A line with a number in it, between a lead and what stands behind.
@@ -109,7 +117,8 @@ fn push_main(out: &mut Text, count: u64) -> Result<(), OutOfMemory>
 {
     out.push_str("main 1\nload_const 0\n")?;
     push_number_lines(out, "call ", 2, " 1", count)?;
-    out.push_str("return\nend\n")
+    out.push_str("return\nend\n")?;
+    Ok(())
 }
 
 /// The listing of so many functions.
