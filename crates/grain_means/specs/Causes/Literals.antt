@@ -45,7 +45,7 @@ ChecksSize one index (op.CheckArraySize i) = (one ≡ one_element) × (index ≡
 ChecksSize one index (op.CheckMapSize i) = (one ≡ one_value) × (index ≡ i)
 ChecksSize one index o = ⊥
 
--- it checks a size where one is limited, the frame has this total, if any, and an element that counts so
+-- it does so where a size is limited
 abbrev pub Measures : {S : Type 0} → Setup S → Sizes → ℕ → Op → Type 0
 Measures m one index o = ChecksSize one index o × (limits_sizes m.engine.limits ≡ true)
 
