@@ -36,7 +36,7 @@ module _ {S : Type 0} (m : Setup S) (k : ℕ) (f : Frame) (w : World S) where
   asks_native q (inr (inl b)) = b.5.to
   asks_native q (inr (inr c)) = c.1
 
-  races : (name : List ℕ) → ReadsLent m.program name (op.Chain k) f w ⊎ AnswersLent m name at → ⊥
+  races : (name : List ℕ) → ReadsLent m name (op.Chain k) f w ⊎ AnswersLent m name at → ⊥
   races name (inl a) = a
   races name (inr b) = b.named
 

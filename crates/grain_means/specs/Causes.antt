@@ -17,7 +17,7 @@ pub use Rattle.grain_means.specs.Causes.Natives.{AssignsTo, AssignsByHost, Quest
 pub use Rattle.grain_means.specs.Causes.Spots.{untraced, ChainWalk, CallAsks, call_asked, call_start, IsReason, IsLeft, CallEnds, InvocationEnds, Invokes, WalksTo, AtStep, Falls, WalkRow}
 pub use Rattle.grain_means.specs.Causes.Chains.{ChainReads, ChainRow, LeavesNative, RaisedByChain, FromHostOrChain, ChainAsks, AsksFor, by_question, by_chain}
 pub use Rattle.grain_means.specs.Causes.Positions.{CallsWith, ReceiverCalls, this_for, roots_for, ChainCalls, ChainCallFails, body_begins, out_of_body, Enters, LeftCall, BodyFails, LeftByChain, HasPosition, AnsweredSo, IsNoChain, TellsHere, ThrowsUnitAt, ThrowsUnit, HaveCaughtUnit, FirstIsArmed, ThrownAnew, Tells}
-pub use Rattle.grain_means.specs.Causes.Literals.{HasTemplate, HasPairs, LacksTemplate, LacksKey, MakesOfLent, ChecksSize, Measures, LacksTotal, GrowsTooLarge}
+pub use Rattle.grain_means.specs.Causes.Literals.{HasTemplate, HasPairs, LacksTemplate, LacksKey, MakesOfLent, ChecksSize, Measures, MeasuresLent, LacksTotal, GrowsTooLarge}
 pub use Rattle.grain_means.specs.Causes.Interpolation.{ShowsSegment, asks_for_text, AsksToShow, Gives, EndsBy, IsPassedOver, Renders, as_text, as_plain, as_given, as_type, AppendsTo, EndsBuffer, LacksBuffer, AppendsTooMuch}
 use Rattle.std.specs.Prelude.{◌≡◌, ◌⊎◌, ◌<◌, ◌≤◌, ◌+◌, ℕ, List, [], Some, None, true, false, length, Result, Ok, Err}
 use Rattle.grain_value.specs.declared.values.Dynamic.{Dynamic}
@@ -88,7 +88,7 @@ pub record AnswersLent {S : Type 0} (m : Setup S) (name : List ℕ) (at : Progra
 -- where a fault says that the content of a cell is lent
 abbrev pub Races : {S : Type 0} → Setup S → List ℕ → ProgramPoint S → Type 0
 Races m s at = (name : List ℕ) × (s ≡ race_text name) ×
-    (ReadsLent m.program name at.instruction at.frame at.world ⊎ AnswersLent m name at)
+    (ReadsLent m name at.instruction at.frame at.world ⊎ AnswersLent m name at)
 
 -- where an instruction raises a fault of this kind; but for a chain it raises no other kind than these
 abbrev pub Raises : {S : Type 0} → Setup S → FaultKind → ProgramPoint S → Type 0

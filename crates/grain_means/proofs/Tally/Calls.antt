@@ -213,7 +213,7 @@ module _ {S : Type 0} {m : Setup S} (walk : Walk m) where
         m.engine.limits.variables < length g.params → Overfills m o f now) →
         (found : Option Function) →
         (found ≡ None → flat_all now.cells (arguments count operands) ≡ None →
-        ReadsLent m.program [] o f now) →
+        ReadsLent m [] o f now) →
         (found ≡ None → (args : List Held) →
         flat_all now.cells (arguments count operands) ≡ Some args →
         Misses m.program name args o f now) →
@@ -244,7 +244,7 @@ module _ {S : Type 0} {m : Setup S} (walk : Walk m) where
 
     -- the pointer under the last n operands, or the fault that there is none
     pub even_pointer : (n : ℕ) → AsksPointer n o f now →
-        (IsLent now (operand_under n f.operands) → ReadsLent m.program [] o f now) →
+        (IsLent now (operand_under n f.operands) → ReadsLent m [] o f now) →
         (go : Option FnPtr → Dynamic → Act S) →
         ((v : Dynamic) → go None v ≡ not_a_pointer m v f (start walk)) →
         ((p : FnPtr) (v : Dynamic) → Points p n f now → Even walk (now.ran + 1) (go (Some p) v)) →

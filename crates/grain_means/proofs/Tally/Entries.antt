@@ -55,7 +55,7 @@ module _ {S : Type 0} {m : Setup S} (walk : Walk m) where
     even_at slot uses go (Some h) e rest = rest h e
 
     pub even_declared : (read_only : Bool) (name : List ℕ) →
-        (IsLent now (top f.operands) → ReadsLent m.program [] o f now) →
+        (IsLent now (top f.operands) → ReadsLent m [] o f now) →
         Sits m root k (stepped f (f.address + width) (below f.operands)) →
         (ReadsTop f now → m.engine.limits.variables ≤ length now.scope → Overfills m o f now) →
         Even walk (now.ran + 1) (declare m read_only name (f.address + width) f (start walk))
@@ -119,7 +119,7 @@ module _ {S : Type 0} {m : Setup S} (walk : Walk m) where
     -- this where something else is held so far, which may be a lent cell
     pub even_home : (before : Held) (name : List ℕ) (a : Home) → IsHomeOf (cell_of before.value) a →
         (h : Held) → Sits m root k (stepped f (f.address + width) (below f.operands)) →
-        (IsLent now before → ReadsLent m.program name o f now) →
+        (IsLent now before → ReadsLent m name o f now) →
         Even walk (now.ran + 1) (assigned_at m a h name (f.address + width) f (start walk))
     even_home before name a home h u lent =
         even_written_at (start walk) (now.ran + 1) (steady walk) trace before name h u
@@ -129,7 +129,7 @@ module _ {S : Type 0} {m : Setup S} (walk : Walk m) where
 
     pub even_entry : (before : Held) (name : List ℕ) (slot : ℕ) (h : Held) →
         Sits m root k (stepped f (f.address + width) (below f.operands)) →
-        (IsLent now before → ReadsLent m.program name o f now) →
+        (IsLent now before → ReadsLent m name o f now) →
         Even walk (now.ran + 1) (write_entry m before slot h name (f.address + width) f
         (start walk))
     even_entry before name slot h u lent =
@@ -139,7 +139,7 @@ module _ {S : Type 0} {m : Setup S} (walk : Walk m) where
     -- the last operand into an entry, or its cell
     pub even_stored_in : (read_only : Bool) (slot : ℕ) (before : Held) →
         Sits m root k (stepped f (f.address + width) (below f.operands)) →
-        (StoresLent (f.base + slot) f now → ReadsLent m.program [] o f now) →
+        (StoresLent (f.base + slot) f now → ReadsLent m [] o f now) →
         held_at now.scope (f.base + slot) ≡ Some before →
         (cell : Option ℕ) → cell_of before.value ≡ cell →
         Even walk (now.ran + 1) (operand_for m cell f (start walk)
@@ -165,7 +165,7 @@ module _ {S : Type 0} {m : Setup S} (walk : Walk m) where
         (below f.operands)) → (ReadsTop f now → (h : Held) → Holds now (f.base + slot) true h →
         AssignsConstant m.program (name_of m.program n) o f now) →
         (AssignsLent (f.base + slot) f now →
-        ReadsLent m.program (name_of m.program n) o f now) →
+        ReadsLent m (name_of m.program n) o f now) →
         (h : Held) → held_at now.scope (f.base + slot) ≡ Some h →
         Even walk (now.ran + 1)
         (flattened m (top f.operands) (name_of m.program n) f (start walk) (λ v.

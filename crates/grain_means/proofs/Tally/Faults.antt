@@ -176,20 +176,20 @@ module _ {S : Type 0} {m : Setup S} (walk : Walk m) where
 
     -- a cell is lent
     even_race_in : (operands : List Held) → Enough walk o operands → (name : List ℕ) →
-        ReadsLent m.program name o f now ⊎ AnswersLent m name (point walk o) →
+        ReadsLent m name o f now ⊎ AnswersLent m name (point walk o) →
         (r : ℕ) (w : World S) → Steady walk r w →
         Even walk r (data_race m name (holding walk operands) w)
     even_race_in operands enough name reads r w s =
         let x = Plain (problem.DataRace (race_text name)) (position m f) in
         even_raised_in operands enough r x w s (why x refl (name, refl, reads))
 
-    pub even_race : (name : List ℕ) → ReadsLent m.program name o f now ⊎ AnswersLent m name
+    pub even_race : (name : List ℕ) → ReadsLent m name o f now ⊎ AnswersLent m name
         (point walk o) → (r : ℕ) (w : World S) → Steady walk r w →
         Even walk r (data_race m name f w)
     even_race name reads r w s = even_race_in f.operands (all_there walk o) name reads r w s
 
     -- what is held is read, or it is a lent cell
-    pub even_flat : (h : Held) (name : List ℕ) → (IsLent now h → ReadsLent m.program name o f now) →
+    pub even_flat : (h : Held) (name : List ℕ) → (IsLent now h → ReadsLent m name o f now) →
         (go : Dynamic → Act S) →
         ((v : Dynamic) → flat now.cells h.value ≡ Some v → Even walk (now.ran + 1) (go v)) →
         (x : Option Dynamic) → flat now.cells h.value ≡ x →
@@ -200,7 +200,7 @@ module _ {S : Type 0} {m : Setup S} (walk : Walk m) where
 
     -- a value is read in another world
     pub even_flat_in : (r : ℕ) (w : World S) → Steady walk r w → (z : Dynamic) (name : List ℕ) →
-        (flat w.cells z ≡ None → ReadsLent m.program name o f now ⊎ AnswersLent m name
+        (flat w.cells z ≡ None → ReadsLent m name o f now ⊎ AnswersLent m name
         (point walk o)) → (go : Dynamic → Act S) → ((v : Dynamic) → Even walk r (go v))
         → (x : Option Dynamic) → flat w.cells z ≡ x →
         Even walk r (flat_or_race m x name f w go)
@@ -209,7 +209,7 @@ module _ {S : Type 0} {m : Setup S} (walk : Walk m) where
 
     -- the same of several
     pub even_flat_all : (operands : List Held) → Enough walk o operands → (hs : List Held) →
-        (flat_all now.cells hs ≡ None → ReadsLent m.program [] o f now) →
+        (flat_all now.cells hs ≡ None → ReadsLent m [] o f now) →
         (go : List Held → Act S) →
         ((vs : List Held) → flat_all now.cells hs ≡ Some vs → Even walk (now.ran + 1) (go vs)) →
         (x : Option (List Held)) → flat_all now.cells hs ≡ x →

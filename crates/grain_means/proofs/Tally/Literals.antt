@@ -17,7 +17,7 @@ use Rattle.grain_fault.specs.declared.faults.MalformedKind.TheVariants as kind
 use Rattle.grain_program.specs.Decoding.{op_at}
 use Rattle.grain_program.specs.declared.code.instruction_set.Op.{Op}
 use Rattle.grain_program.specs.declared.code.instruction_set.Op.TheVariants as op
-use Rattle.grain_means.specs.Causes.{ChecksSize, HasTemplate, IsLent, Raises, ReadsLent}
+use Rattle.grain_means.specs.Causes.{ChecksSize, HasTemplate, MeasuresLent, Raises, ReadsLent}
 use Rattle.grain_means.specs.Rules.{KeyIs, Pairs, PairsAre, PairsLent, counted_in, flat_all, grown, innermost_total, instr, limited, literal_made, make_fn_ptr, make_map, map_made, onward, operand_under, outer_totals, pairs_of, pointer_named, position, pushed, raised, sizes_so_far, stepped, template_read, totals_ended, totals_opened, trees_in, with_totals, check_size}
 use Rattle.grain_means.specs.Worlds.{Setup, Total}
 use Rattle.grain_means.proofs.Footing.{Sits, by_test}
@@ -51,7 +51,7 @@ module _ {S : Type 0} {m : Setup S} (walk : Walk m) where
 
     -- a size is checked
     module _ (one : Sizes) (index : ℕ) (checks : ChecksSize one index o)
-        (lent : IsLent now (top f.operands) → ReadsLent m.program [] o f now)
+        (races : MeasuresLent m o f now → ReadsLent m [] o f now)
         (u : Sits m root k (stepped f next f.operands)) where
       even_totals : (ts : List Total) → Even walk (now.ran + 1)
           (onward m f (with_totals ts (stepped f next f.operands)) (start walk))
@@ -73,7 +73,8 @@ module _ {S : Type 0} {m : Setup S} (walk : Walk m) where
             by_total some None e =
                 even_refused (problem.Malformed (kind.MissingTotal index)) (one, (checks, some), e)
             by_total some (Some t) e =
-                even_flat walk o width stands (top f.operands) [] lent _
+                even_flat walk o width stands (top f.operands) []
+                (λ lent. races (one, index, t, (checks, some), e, lent)) _
                 (λ v read. by_limit v read (too_large m.engine.limits (sizes_so_far (with_it v))) refl)
                 (flat now.cells (top f.operands).value) refl where
                   with_it : Dynamic → Total

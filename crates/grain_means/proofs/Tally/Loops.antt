@@ -37,7 +37,7 @@ module _ {S : Type 0} {m : Setup S} (walk : Walk m) where
 
   -- the rules of an instruction that stands where the frame does
   module _ (o : Op) (width : ℕ) (stands : op_at m.program.code f.address ≡ Some (o, width)) where
-    pub even_loop_begun : (IsLent now (top f.operands) → ReadsLent m.program [] o f now) →
+    pub even_loop_begun : (IsLent now (top f.operands) → ReadsLent m [] o f now) →
         ((v : Dynamic) → flat now.cells (top f.operands).value ≡ Some v → items_of v ≡ None →
         GoesOverNone o f now) →
         ((ts : List Tree) →
@@ -59,7 +59,7 @@ module _ {S : Type 0} {m : Setup S} (walk : Walk m) where
     -- this is written where something else is held so far, which may be a lent cell, and then what follows
     -- in a world where nothing is lent that was not
     even_stored : (before : Held) (a : Home) → IsHomeOf (cell_of before.value) a → (h : Held) →
-        (IsLent now before → ReadsLent m.program [] o f now) → (go : World S → Act S) →
+        (IsLent now before → ReadsLent m [] o f now) → (go : World S → Act S) →
         ((w : World S) → Steady walk (now.ran + 1) w → w.trace ≡ [] → Unlent now.cells w.cells →
         Even walk (now.ran + 1) (go w)) →
         Even walk (now.ran + 1) (written_at m a h [] f (start walk) go)
@@ -115,7 +115,7 @@ module _ {S : Type 0} {m : Setup S} (walk : Walk m) where
     even_counted : (slot : Option ℕ) (n : ℤ) →
         ((s : ℕ) → slot ≡ Some s → UsesEntry (f.base + s) o f now) →
         ((s : ℕ) (h : Held) → slot ≡ Some s → held_at now.scope (f.base + s) ≡ Some h →
-        IsLent now h → ReadsLent m.program [] o f now) → (go : World S → Act S) →
+        IsLent now h → ReadsLent m [] o f now) → (go : World S → Act S) →
         (HasEntry slot → (w : World S) → Steady walk (now.ran + 1) w → w.trace ≡ [] →
         Unlent now.cells w.cells → Even walk (now.ran + 1) (go w)) →
         Even walk (now.ran + 1) (count_stored m slot n f (start walk) go)
@@ -151,8 +151,8 @@ module _ {S : Type 0} {m : Setup S} (walk : Walk m) where
         (target ≤ f.address → IsOver f → Charges m.program o f now) →
         ((t : Tree) → HasNext t f → (s : ℕ) → slot ≡ Some s → UsesEntry (f.base + s) o f now) →
         ((t : Tree) → HasNext t f → (s : ℕ) (h : Held) → slot ≡ Some s →
-        held_at now.scope (f.base + s) ≡ Some h → IsLent now h → ReadsLent m.program [] o f now) →
-        (HasEntry slot → GivesLent f now → ReadsLent m.program [] o f now) →
+        held_at now.scope (f.base + s) ≡ Some h → IsLent now h → ReadsLent m [] o f now) →
+        (HasEntry slot → GivesLent f now → ReadsLent m [] o f now) →
         ((n : ℤ) → CountsPast n f → CountsTooFar (counter_text n) o f) →
         Sits m root k (without_cursor (stepped f target f.operands)) →
         ((ts : List Tree) (n : ℤ) (v : Dynamic) → (IsOver f → ⊥) → Sits m root k
@@ -187,7 +187,7 @@ module _ {S : Type 0} {m : Setup S} (walk : Walk m) where
               (inr (far n (refl, (λ over. some_left is over), past)))))
 
     -- a transfer to the target that a switch has for the last operand
-    pub even_switched : (index : ℕ) → (IsLent now (top f.operands) → ReadsLent m.program [] o f now) →
+    pub even_switched : (index : ℕ) → (IsLent now (top f.operands) → ReadsLent m [] o f now) →
         ((v : Dynamic) → flat now.cells (top f.operands).value ≡ Some v →
         switch_target (switch_of m.program index) v ≤ f.address → Charges m.program o f now) →
         ((v : Dynamic) →

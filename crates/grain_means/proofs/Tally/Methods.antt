@@ -51,16 +51,17 @@ module _ {S : Type 0} (program : View) (o : Op) (n : ℕ) (f : Frame) (w : World
     of_kind (op.CallFnPtrOnThis k) is = subst (λ (j : ℕ). MissesPointed program name args j f w) is
     of_kind o is = absurd is
 
-  pub method_reads : IsMethodCall n o → MethodReadsLent program n f w → ReadsLent program [] o f w
+module _ {S : Type 0} (m : Setup S) (o : Op) (n : ℕ) (f : Frame) (w : World S) where
+  pub method_reads : IsMethodCall n o → MethodReadsLent m.program n f w → ReadsLent m [] o f w
   method_reads is = of_kind o is where
-    of_kind : (o : Op) → IsMethodCall n o → MethodReadsLent program n f w →
-        ReadsLent program [] o f w
+    of_kind : (o : Op) → IsMethodCall n o → MethodReadsLent m.program n f w →
+        ReadsLent m [] o f w
     of_kind (op.CallFnPtrMethod k) is reads =
-        (refl, subst (λ (j : ℕ). MethodReadsLent program j f w) is reads)
+        (refl, subst (λ (j : ℕ). MethodReadsLent m.program j f w) is reads)
     of_kind (op.CallFnPtrOnLocal k slot) is reads =
-        (refl, subst (λ (j : ℕ). MethodReadsLent program j f w) is reads)
+        (refl, subst (λ (j : ℕ). MethodReadsLent m.program j f w) is reads)
     of_kind (op.CallFnPtrOnThis k) is reads =
-        (refl, subst (λ (j : ℕ). MethodReadsLent program j f w) is reads)
+        (refl, subst (λ (j : ℕ). MethodReadsLent m.program j f w) is reads)
     of_kind o is reads = absurd is
 
 pub method_fills : {S : Type 0} (m : Setup S) (o : Op) (n : ℕ) (f : Frame) (w : World S) →

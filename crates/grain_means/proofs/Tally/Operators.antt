@@ -210,7 +210,7 @@ module _ {S : Type 0} {m : Setup S} (walk : Walk m) where
     pub even_stored : (a : AssignOp) (op_name name : List ℕ) (args : List Held) (h : Held)
         (u : Dynamic) (v : Held) (home : Home) → IsHomeOf (cell_of h.value) home →
         Sits m root k (stepped f (f.address + width) (below f.operands)) →
-        (IsLent now h → ReadsLent m.program name o f now) →
+        (IsLent now h → ReadsLent m name o f now) →
         AnswersLentTo m (point walk o) name → (outcome : Outcome) →
         Operates m outcome op_name args o f now →
         (outcome ≡ NotBuiltIn → AssignsByHost m a home h u v o f now) →
@@ -240,7 +240,7 @@ module _ {S : Type 0} {m : Setup S} (walk : Walk m) where
         (ReadsTop f now → (h : Held) → Holds now (f.base + slot) true h →
         AssignsConstant m.program (name_of m.program n) o f now) →
         (AssignsLent (f.base + slot) f now →
-        ReadsLent m.program (name_of m.program n) o f now) →
+        ReadsLent m (name_of m.program n) o f now) →
         AnswersLentTo m (point walk o) (name_of m.program n) →
         ((h : Held) (u v : Dynamic) → Holds now (f.base + slot) false h →
         flat now.cells h.value ≡ Some u → flat now.cells (top f.operands).value ≡ Some v →

@@ -101,7 +101,7 @@ module _ {S : Type 0} {m : Setup S} (walk : Walk m) where
               (why walk o width stands x refl (
                 [],
                 refl,
-                inl (method_reads m.program o (suc n) f now is
+                inl (method_reads m o (suc n) f now is
                     (inr (points.0, inr (p, points.1, none, lent)))),
               )) (steady walk) refl
 
@@ -290,7 +290,7 @@ module _ {S : Type 0} {m : Setup S} (walk : Walk m) where
         (λ g args calls charged low many. method_fills m o n f now is
         (g, args, inl calls, charged, low, many))
         (function_by_name m.program p.name count)
-        (λ none lent. method_reads m.program o n f now is (inl (inr (p, points, none, lent))))
+        (λ none lent. method_reads m o n f now is (inl (inr (p, points, none, lent))))
         (λ none args read. method_misses m.program o n f now p.name args is
         (p, points, refl, read, none))
         (λ g e. method_calls m.program o n f now g (arguments count ops) is (p, points, e, refl))
@@ -317,7 +317,7 @@ module _ {S : Type 0} {m : Setup S} (walk : Walk m) where
     even_first zero is on enough uses v read none = even_no_pointer 0 0 is refl v read none
     even_first (suc n) is on enough uses v read none =
         even_flat walk o width stands (operand_under n f.operands) []
-        (λ lent. method_reads m.program o (suc n) f now is (inr ((v, read, none), inl lent)))
+        (λ lent. method_reads m o (suc n) f now is (inr ((v, read, none), inl lent)))
         (λ u. first_called m d (pointer_of u) u n (f.address + width) f (start walk))
         (λ u read_it. by_pointer u read_it (pointer_of u) refl)
         (flat now.cells (operand_under n f.operands).value) refl where
@@ -341,7 +341,7 @@ module _ {S : Type 0} {m : Setup S} (walk : Walk m) where
         Even walk (now.ran + 1) (method_call m d n (f.address + width) f (start walk))
     even_method n is on enough uses =
         even_flat walk o width stands (operand_under n f.operands) []
-        (λ lent. method_reads m.program o n f now is (inl (inl lent)))
+        (λ lent. method_reads m o n f now is (inl (inl lent)))
         (λ v. target_called m d (pointer_of v) v n (f.address + width) f (start walk))
         (λ v read. by_pointer v read (pointer_of v) refl)
         (flat now.cells (operand_under n f.operands).value) refl where

@@ -42,7 +42,7 @@ module _ {S : Type 0} {m : Setup S} (walk : Walk m) where
     -- an operand that can be read is assigned to `this`, which may be lent or read-only
     module _ (on : Sits m root k (stepped f (f.address + width) (below f.operands)))
         (asks : ReadsTop f now → AsksThis o f now)
-        (lent : AssignsLentThis f now → ReadsLent m.program [] o f now)
+        (lent : AssignsLentThis f now → ReadsLent m [] o f now)
         (constant : ReadsTop f now → (h : Held) → HoldsThis f now h → is_read_only now h ≡ true →
         AssignsConstant m.program [] o f now) where
       even_writable : (p : Place) → f.this ≡ Some p → ReadsTop f now → (go : Act S) →

@@ -81,7 +81,7 @@ module _ {S : Type 0} {m : Setup S} (walk : Walk m) where
         Sits m root k (stepped f (f.address + width) (below f.operands)) → Tests o →
         (target ≤ f.address → truth_on_top f now ≡ Some wanted →
         Charges m.program o f now) →
-        (IsLent now (top f.operands) → ReadsLent m.program [] o f now) →
+        (IsLent now (top f.operands) → ReadsLent m [] o f now) →
         Even walk (now.ran + 1) (jump_if m wanted target (f.address + width) f (start walk))
     even_jump_if wanted target enough there u tests back lent =
         even_flat walk o width stands (top f.operands) [] lent _

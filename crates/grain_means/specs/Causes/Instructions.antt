@@ -22,7 +22,7 @@ use Rattle.grain_ops.specs.Outcomes.{Outcome, NotBuiltIn}
 use Rattle.grain_means.specs.Worlds.{World, Setup, Frame, Place}
 use Rattle.grain_means.specs.Places.{look}
 use Rattle.grain_host.specs.Law.{GoOn}
-use Rattle.grain_means.specs.Causes.Literals.{MakesOfLent}
+use Rattle.grain_means.specs.Causes.Literals.{MakesOfLent, MeasuresLent}
 use Rattle.grain_means.specs.Rules.{name_at, counter_text, flat_all, innermost_cursor, operand_under, is_read_only, held_at, function_found, operated, op_assigned}
 
 -- the truth value that is read, if it is one
@@ -284,47 +284,47 @@ CountsTooFar s (op.IterNextIndexed t slot) f = (n : ℤ) × CountsPast n f × (s
 CountsTooFar s o f = ⊥
 
 -- it reads or writes a cell whose content is lent, at the variable of this name
-abbrev pub ReadsLent : {S : Type 0} → View → List ℕ → Op → Frame → World S → Type 0
-ReadsLent program name (op.LoadLocal s) f w = (name ≡ name_at w.scope (f.base + s)) ×
+abbrev pub ReadsLent : {S : Type 0} → Setup S → List ℕ → Op → Frame → World S → Type 0
+ReadsLent m name (op.LoadLocal s) f w = (name ≡ name_at w.scope (f.base + s)) ×
     ((h : Held) × (held_at w.scope (f.base + s) ≡ Some h) × IsLent w h)
-ReadsLent program name (op.StoreLocal s) f w = (name ≡ []) × StoresLent (f.base + s) f w
-ReadsLent program name (op.StoreConst s) f w = (name ≡ []) × StoresLent (f.base + s) f w
-ReadsLent program name (op.StoreShared s) f w = (name ≡ []) × StoresLent (f.base + s) f w
-ReadsLent program name (op.DeclareLocal n) f w = (name ≡ []) × IsLent w (top f.operands)
-ReadsLent program name (op.DeclareConst n) f w = (name ≡ []) × IsLent w (top f.operands)
-ReadsLent program name (op.AssignLocal s n) f w =
-    (name ≡ name_of program n) × AssignsLent (f.base + s) f w
-ReadsLent program name (op.AssignLocalOp s n a) f w =
-    (name ≡ name_of program n) × AssignsLent (f.base + s) f w
-ReadsLent program name op.LoadThis f w =
+ReadsLent m name (op.StoreLocal s) f w = (name ≡ []) × StoresLent (f.base + s) f w
+ReadsLent m name (op.StoreConst s) f w = (name ≡ []) × StoresLent (f.base + s) f w
+ReadsLent m name (op.StoreShared s) f w = (name ≡ []) × StoresLent (f.base + s) f w
+ReadsLent m name (op.DeclareLocal n) f w = (name ≡ []) × IsLent w (top f.operands)
+ReadsLent m name (op.DeclareConst n) f w = (name ≡ []) × IsLent w (top f.operands)
+ReadsLent m name (op.AssignLocal s n) f w =
+    (name ≡ name_of m.program n) × AssignsLent (f.base + s) f w
+ReadsLent m name (op.AssignLocalOp s n a) f w =
+    (name ≡ name_of m.program n) × AssignsLent (f.base + s) f w
+ReadsLent m name op.LoadThis f w =
     (name ≡ []) × ((h : Held) × HoldsThis f w h × IsLent w h)
-ReadsLent program name op.AssignThis f w = (name ≡ []) × AssignsLentThis f w
-ReadsLent program name (op.AssignThisOp a) f w = (name ≡ []) × AssignsLentThis f w
-ReadsLent program name (op.JumpIfFalse t) f w = (name ≡ []) × IsLent w (top f.operands)
-ReadsLent program name (op.JumpIfTrue t) f w = (name ≡ []) × IsLent w (top f.operands)
-ReadsLent program name (op.Switch k) f w = (name ≡ []) × IsLent w (top f.operands)
-ReadsLent program name op.IterInit f w = (name ≡ []) × IsLent w (top f.operands)
-ReadsLent program name (op.IterNext t) f w = (name ≡ []) × GivesLent f w
-ReadsLent program name (op.IterNextIndexed t s) f w = (name ≡ []) ×
+ReadsLent m name op.AssignThis f w = (name ≡ []) × AssignsLentThis f w
+ReadsLent m name (op.AssignThisOp a) f w = (name ≡ []) × AssignsLentThis f w
+ReadsLent m name (op.JumpIfFalse t) f w = (name ≡ []) × IsLent w (top f.operands)
+ReadsLent m name (op.JumpIfTrue t) f w = (name ≡ []) × IsLent w (top f.operands)
+ReadsLent m name (op.Switch k) f w = (name ≡ []) × IsLent w (top f.operands)
+ReadsLent m name op.IterInit f w = (name ≡ []) × IsLent w (top f.operands)
+ReadsLent m name (op.IterNext t) f w = (name ≡ []) × GivesLent f w
+ReadsLent m name (op.IterNextIndexed t s) f w = (name ≡ []) ×
     ((h : Held) × (held_at w.scope (f.base + s) ≡ Some h) × ((u : Tree) × HasNext u f) ×
     (IsLent w h ⊎ GivesLent f w))
-ReadsLent program name (op.Call n k) f w = (name ≡ []) × (function_found program n k ≡ None) ×
+ReadsLent m name (op.Call n k) f w = (name ≡ []) × (function_found m.program n k ≡ None) ×
     (flat_all w.cells (arguments k f.operands) ≡ None)
-ReadsLent program name (op.CallOp n k t) f w =
+ReadsLent m name (op.CallOp n k t) f w =
     (name ≡ []) × (flat_all w.cells (arguments k f.operands) ≡ None)
-ReadsLent program name op.MakeFnPtr f w = (name ≡ []) × IsLent w (top f.operands)
-ReadsLent program name (op.MakeArray n) f w =
+ReadsLent m name op.MakeFnPtr f w = (name ≡ []) × IsLent w (top f.operands)
+ReadsLent m name (op.MakeArray n) f w =
     (name ≡ []) × (flat_all w.cells (arguments n f.operands) ≡ None)
-ReadsLent program name (op.MakeMap n) f w = (name ≡ []) × MakesOfLent n f w
-ReadsLent program name (op.CheckArraySize i) f w = (name ≡ []) × IsLent w (top f.operands)
-ReadsLent program name (op.CheckMapSize i) f w = (name ≡ []) × IsLent w (top f.operands)
-ReadsLent program name op.InterpolateAppend f w =
+ReadsLent m name (op.MakeMap n) f w = (name ≡ []) × MakesOfLent n f w
+ReadsLent m name (op.CheckArraySize i) f w = (name ≡ []) × MeasuresLent m (op.CheckArraySize i) f w
+ReadsLent m name (op.CheckMapSize i) f w = (name ≡ []) × MeasuresLent m (op.CheckMapSize i) f w
+ReadsLent m name op.InterpolateAppend f w =
     (name ≡ []) × (IsLent w (top f.operands) ⊎ IsLent w (operand_under 1 f.operands))
-ReadsLent program name op.InterpolateEnd f w = (name ≡ []) × IsLent w (top f.operands)
-ReadsLent program name (op.Curry n) f w = (name ≡ []) × IsLent w (operand_under n f.operands)
-ReadsLent program name (op.CallFnPtr n) f w = (name ≡ []) × PointedReadsLent program n f w
-ReadsLent program name (op.CallFnPtrMethod n) f w = (name ≡ []) × MethodReadsLent program n f w
-ReadsLent program name (op.CallFnPtrOnLocal n slot) f w = (name ≡ []) × MethodReadsLent program n f w
-ReadsLent program name (op.CallFnPtrOnThis n) f w = (name ≡ []) × MethodReadsLent program n f w
-ReadsLent program name op.Throw f w = (name ≡ []) × IsLent w (top f.operands)
-ReadsLent program name o f w = ⊥
+ReadsLent m name op.InterpolateEnd f w = (name ≡ []) × IsLent w (top f.operands)
+ReadsLent m name (op.Curry n) f w = (name ≡ []) × IsLent w (operand_under n f.operands)
+ReadsLent m name (op.CallFnPtr n) f w = (name ≡ []) × PointedReadsLent m.program n f w
+ReadsLent m name (op.CallFnPtrMethod n) f w = (name ≡ []) × MethodReadsLent m.program n f w
+ReadsLent m name (op.CallFnPtrOnLocal n slot) f w = (name ≡ []) × MethodReadsLent m.program n f w
+ReadsLent m name (op.CallFnPtrOnThis n) f w = (name ≡ []) × MethodReadsLent m.program n f w
+ReadsLent m name op.Throw f w = (name ≡ []) × IsLent w (top f.operands)
+ReadsLent m name o f w = ⊥

@@ -45,9 +45,14 @@ ChecksSize one index (op.CheckArraySize i) = (one ≡ one_element) × (index ≡
 ChecksSize one index (op.CheckMapSize i) = (one ≡ one_value) × (index ≡ i)
 ChecksSize one index o = ⊥
 
--- it checks a size where one is limited, the frame has this total, if any, and an element that counts so
+-- it does so where a size is limited
 abbrev pub Measures : {S : Type 0} → Setup S → Sizes → ℕ → Op → Type 0
 Measures m one index o = ChecksSize one index o × (limits_sizes m.engine.limits ≡ true)
+
+-- it checks a size where one is limited, the frame has a total, and the last operand is a lent cell
+abbrev pub MeasuresLent : {S : Type 0} → Setup S → Op → Frame → World S → Type 0
+MeasuresLent m o f w = (one : Sizes) × (index : ℕ) × (t : Total) × Measures m one index o
+    × (innermost_total (totals_opened index f.totals) ≡ Some t) × IsLent w (top f.operands)
 
 -- it checks the element of this number, and the frame has no total
 abbrev pub LacksTotal : {S : Type 0} → Setup S → ℕ → Op → Frame → Type 0
