@@ -2,10 +2,11 @@
 
 ghost use Rattle.std.specs.Prelude.{◌≡◌, ◌<◌, ◌≤◌, ◌+◌, ◌∷◌, [], ℕ, List, length, Ok, Some, IfOk, is_ok, is_some, true, slice_get, if◌then◌else◌};
 ghost use Rattle.grain_value.specs.Cells.{flat};
-ghost use Rattle.grain_value.specs.Maps.{Entries};
+ghost use Rattle.grain_value.specs.Maps.{Entries, put_entry};
 ghost use Rattle.grain_value.specs.Operands.{arguments, below, under};
 ghost use Rattle.grain_value.specs.declared.values.Dynamic.{Dynamic};
 ghost use Rattle.grain_value.specs.declared.values.Held.{Held};
+ghost use Rattle.grain_value.specs.View.{tree};
 ghost use Rattle.grain_value.specs.Writing.{type_name_of};
 ghost use Rattle.grain_fault.specs.Problems.{Plain, Malformed};
 ghost use Rattle.grain_fault.specs.declared.faults.MalformedKind.TheVariants as kind;
@@ -26,7 +27,7 @@ use grain_fault::MalformedKind;
 use grain_global::Steps;
 use grain_host::Host;
 use grain_stack::Total;
-use grain_value::{Array, Dynamic, Held, Map, OutOfMemory, Store, calc_data_sizes};
+use grain_value::{Array, Dynamic, Held, Map, OutOfMemory, Store, Text, calc_data_sizes};
 use std::sync::ledger::Ledger;
 
 /// Why keys and values are no pairs of a map.
@@ -55,6 +56,14 @@ fn first_misfit(cells: &Store, held: &[Held], count: usize) -> Option<Misfit>
         }
     }
     None
+}
+
+// Puts a pair into a map. What stood there under the key goes.
+fn put_pair(map: &mut Map, key: Text, value: Dynamic) -> Result<(), OutOfMemory>
+    ensures { IfOk result (λ _. map.new ≡ put_entry key (tree value) map.old) }
+{
+    let _replaced = map.insert(key, value)?;
+    Ok(())
 }
 
 impl<H: Host> Run<H> {
@@ -280,7 +289,8 @@ impl<H: Host> Run<H> {
             let Dynamic::Text(key) = self.flat_value(key.value)? else {
                 unreachable!();
             };
-            map.insert(key, self.flat_value(held.value)?)?;
+            let value = self.flat_value(held.value)?;
+            put_pair(&mut map, key, value)?;
         }
         Ok(map)
     }

@@ -80,8 +80,8 @@ returns-then-is_none g c =
     }
 
 -- the literal becomes too large
-pub returns-in-Some-what : goal.returns-in-Some-what
-returns-in-Some-what g c =
+pub returns-in-Some-too_large : goal.returns-in-Some-too_large
+returns-in-Some-too_large g c =
     let p = c.args.context.program.now in
     let engine = c.args.context.engine.now in
     let s = c.args.self.now in
@@ -97,7 +97,7 @@ returns-in-Some-what g c =
     c.calc_data_sizes.ensures in
     let more : c.grown-total.result ≡ grown (plus one (plain_sizes v.0)) t =
     c.grown-total.ensures (plain_sizes v.0) held in
-    let w = c.in-Some-what.what.now in
+    let w = c.in-Some-too_large.what.now in
     let over = too_much_is engine.limits (Some w) c.sizes.result c.grown-total.result
     (grown (plus one (plain_sizes v.0)) t) c.sizes.ensures more (search rules) in
     record {
@@ -131,8 +131,13 @@ returns g c =
     let within = too_much_is engine.limits None c.sizes.result c.grown-total.result
     (grown (plus one (plain_sizes v.0)) t) c.sizes.ensures more (search rules) in
     let own = grown (plus one (plain_sizes v.0)) t ∷ around (opened c.args.index s.stacks.totals) in
+    let keeps : c.keep_total.new.self ≡ record s {
+      stacks = record s.stacks {
+        totals = c.grown-total.result ∷ around (opened c.args.index s.stacks.totals);
+      };
+    } = search rules in
     let kept : c.keep_total.new.self ≡ record s { stacks = record s.stacks { totals = own } } =
-    rw more at (search rules) in
+    rw more at keeps in
     record {
       implements = λ host. implements_totalled g.H.Host.law p engine f c.go_on.new.frame s
           c.go_on.new.self c.args.steps.now c.go_on.new.steps

@@ -35,7 +35,7 @@ returns g c =
     let ops = s.stacks.operands in
     let read = all_there (flat_all s.cells (arguments n ops)) (search rules) in
     let made : c.in_ok-array.array ≡ trees_in read.0 =
-    c.in_ok-array.ensures.taken read.0 (rw c.from-count.ensures at read.1) in
+    c.in_ok-array.ensures.taken read.0 (rw c.from-count.ensures read.1) in
     let left : c.take_array.new.self ≡ record s {
       stacks = record s.stacks { operands = under n ops };
     } = rw c.from-count.ensures at c.in_ok-array.ensures.left in
