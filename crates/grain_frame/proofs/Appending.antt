@@ -1,6 +1,6 @@
 -- What is appended to a text: where it stops if memory is out, and what comes before it.
 use Rattle.std.proofs.Common.{◌≡◌, ◌∙◌, ◌<◌, ◌≤◌, ◌+◌, ◌++◌, ◌∷◌, ℕ, List, [], Option, Some, None, Bool, true, false, if◌then◌else◌, Result, Ok, Err, length, take, zero, suc, ◌-◌, refl, sym, ap, arith}
-use Rattle.std.specs.Prelude.{codes}
+use Rattle.std.specs.Prelude.{codes, is_none}
 use Rattle.std.proofs.lemmas.List.{length-take-le, take_all}
 use Rattle.grain_value.specs.Cells.{flat}
 use Rattle.grain_value.specs.Looking.{text_of}
@@ -200,11 +200,15 @@ module _ {S : Type 0} (m : Setup S) (f : Frame) (w : World S) (next : ℕ) where
       segment_read m None v h next f w ≡ appended m (plain v) next f w
   shows_plainly v h none = rw none refl
 
-  -- a native does
-  pub shows : (v : Dynamic) (h : Held) (n : Native) →
-      native_of m.law w.host to_string (kind_of h.value ∷ []) ≡ Some n →
+  -- a native does, and the segment's type has this name
+  pub shows : (v : Dynamic) (h : Held) (t : List ℕ) (n : Native) →
+      native_of m.law w.host to_string (kind_of h.value ∷ []) ≡ Some n → t ≡ type_name_of v →
       segment_read m None v h next f w
       ≡ native m to_string None (h ∷ []) f w
-      (λ r w1. answer_appended m (flat w1.cells r) (type_name_of v) next f w1)
-      (showing_failed m (type_name_of v) next f)
-  shows v h n found = rw found refl
+      (λ r w1. answer_appended m (flat w1.cells r) t next f w1) (showing_failed m t next f)
+  shows v h t n found typed = rw (found, typed) refl
+
+-- a native that is there
+pub native_there : (o : Option Native) → is_none o ≡ false → (n : Native) × (o ≡ Some n)
+native_there None no = absurd cc
+native_there (Some n) no = (n, refl)

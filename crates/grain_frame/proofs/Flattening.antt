@@ -92,6 +92,11 @@ pub last_ones : (n : ℕ) (xs : List Held) →
 last_ones n xs = take_all (length xs - (length xs - n)) (drop (length xs - n) xs)
     (omega (arith, length-drop (length xs - n) xs))
 
+-- the same of operands that are equal to these
+pub last_held : (n : ℕ) (xs ops : List Held) → ops ≡ xs →
+    take (length ops - (length ops - n)) (drop (length ops - n) ops) ≡ arguments n xs
+last_held n xs ops same = rw same (last_ones n xs)
+
 -- the same of what they hold, as it is read
 pub last_read : (cells : List Cell) (n : ℕ) (xs ops args : List Held) → ops ≡ xs →
     flat_all cells (arguments n xs) ≡ Some args →

@@ -159,3 +159,18 @@ module _ (cells : List Cell) where
           flat cells h.value ≡ Some v →
           pairs_of cells hs es ≡ pairs_of cells (drop (i + 2) hs) (put_entry s (tree v) fs)
       pair_fits s v read also = is ∙ rw (pair_at, read, also) refl
+
+one_map : (o : Option Dynamic) (a b : Entries) → o ≡ Some (dynamic.Map a) →
+    o ≡ Some (dynamic.Map b) → a ≡ b
+one_map o a b is also = cc
+
+one_entries : (o : Pairs) (a b : Entries) → o ≡ PairsAre a → o ≡ PairsAre b → a ≡ b
+one_entries o a b is also = cc
+
+-- a map has one list of entries once pairs were added
+pub same_entries : (o : Option Dynamic) (of : Entries → Pairs) (es gs fs ds : Entries) →
+    o ≡ Some (dynamic.Map es) → o ≡ Some (dynamic.Map gs) → of es ≡ PairsAre fs →
+    of gs ≡ PairsAre ds → fs ≡ ds
+same_entries o of es gs fs ds one other first second =
+    one_entries (of gs) fs ds
+    (ap of (sym (one_map o es gs one other)) ∙ first) second

@@ -2,7 +2,9 @@
 use Rattle.std.proofs.Common.{◌≡◌, ◌∙◌, ◌≤◌, ◌+◌, ◌-◌, ◌++◌, ◌∷◌, ◌==◌, ℕ, List, [], Option, Some, None, Bool, true, false, if◌then◌else◌, option_map, Result, Ok, Err, length, refl, sym, subst, ap, arith}
 use Rattle.grain_value.specs.Cells.{flat}
 use Rattle.grain_value.specs.Operands.{read_write, top}
-use Rattle.grain_value.specs.Sizes.{Sizes, limits_sizes, plain_sizes, plus, too_large}
+use Rattle.grain_value.specs.Sizes.{Sizes, counted, data_sizes, limits_sizes, plain_sizes, plus, too_large}
+use Rattle.grain_value.specs.declared.stores.Cell.{Cell}
+use Rattle.grain_value.specs.declared.values.Limits.{Limits}
 use Rattle.grain_value.specs.declared.memory.OutOfMemory.{OutOfMemory}
 use Rattle.grain_value.specs.declared.values.Dynamic.{Dynamic}
 use Rattle.grain_value.specs.declared.values.Held.{Held}
@@ -133,6 +135,20 @@ innermost_is (t ∷ ts) = refl
 outer_is : (ts : List Total) → outer_totals (totals_in ts) ≡ totals_in (around ts)
 outer_is [] = refl
 outer_is (t ∷ ts) = refl
+
+-- how much an operand is that can be read, as it was measured
+pub measured_is : (cells : List Cell) (h x : Held) (v : Dynamic) (p : Sizes) → x ≡ h →
+    flat cells h.value ≡ Some v → p ≡ counted (data_sizes cells x.value) →
+    p ≡ counted (plain_sizes v)
+measured_is cells h x v p same read is = is ∙ rw (same, read) refl
+
+-- what of a total is too much, as it was looked for
+pub too_much_is : (limits : Limits) (o : Option (List ℕ)) (p : Sizes) (t u : Total) →
+    p ≡ (t.arrays, t.maps, t.text) → t ≡ u → o ≡ too_large limits p →
+    too_large limits (u.arrays, u.maps, u.text) ≡ o
+too_much_is limits o p t u sizes same is =
+    ap (λ (x : Total). too_large limits (x.arrays, x.maps, x.text)) (sym same)
+    ∙ ap (λ (x : Sizes). too_large limits x) (sym sizes) ∙ sym is
 
 -- the run with other totals
 abbrev pub totalled : {H : Type 0} → List Total → Run H → Run H

@@ -13,6 +13,7 @@ pub mod This
 pub mod Refusals
 pub mod Pointers
 pub mod Literals
+pub mod Showing
 pub mod lemmas
 pub use Rattle.grain_global.specs.StepsView
 pub use Rattle.grain_means.specs.Means

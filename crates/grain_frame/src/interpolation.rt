@@ -14,15 +14,16 @@ ghost use Rattle.grain_global.specs.declared.engines.Engine.{Engine};
 ghost use Rattle.grain_means.specs.Means.{setup};
 ghost use Rattle.grain_means.specs.Rules.{answer_appended, appended, operand_under, segment_read, showing_failed, shown, type_appended};
 ghost use Rattle.grain_frame.specs.Abstraction.{CanBegin, Implements, Performs, Raises, Ready, frame_in, setup_of, moment};
+ghost use Rattle.grain_frame.specs.Showing.{SeeksShown};
 ghost use Rattle.grain_frame.specs.Waiting.{ImplementsOrWaits, PerformsOrWaits};
 ghost use Rattle.grain_program.specs.declared.code.instruction_set.Op.TheVariants as op;
 
 use crate::activations::Activation;
 use crate::contexts::Context;
-use crate::native_calls::{Arguments, NativeEnd, seek};
+use crate::native_calls::{Arguments, NativeEnd, Sought, seek};
 use crate::runs::{Progress, Run};
 use crate::waiting::{Loan, Performed, Rest, Waiting};
-use grain_fault::{EvalAltResult, MalformedKind};
+use grain_fault::{EvalAltResult, MalformedKind, Position};
 use grain_global::Steps;
 use grain_host::Host;
 use grain_value::{Dynamic, OutOfMemory, Text};
@@ -95,17 +96,13 @@ impl<H: Host> Run<H> {
             (frame_in frame.old self.old place) w) (next ∷ []) 2 1 self.old.stacks.handlers result
             (moment frame.new self.new steps.new host.new) }
     {
-        let operands = self.stacks.frame_operands();
-        let given = &operands[operands.len() - 1..];
-        let arguments = Arguments::of(self.alloc, &self.cells, given)?;
-        if host.resolve("to_string", &arguments.kinds).is_none() {
+        let position = context.program.position(frame.address);
+        let found = self.seek_shown(host, position)?;
+        let Some(sought) = found else {
             let text = self.plain_top()?;
             return Performed::of(self.append(context, steps, frame, &text, next));
-        }
+        };
         let type_name = self.type_of_top()?;
-        let name = Text::copy_of(self.alloc, "to_string")?;
-        let position = context.program.position(frame.address);
-        let sought = seek(self.alloc, host, &name, arguments, position)?;
         match self.call_native(host, steps, sought, position)? {
             NativeEnd::Value(value) => {
                 Performed::of(self.append_answer(context, steps, frame, value, type_name, next))
@@ -119,6 +116,26 @@ impl<H: Host> Run<H> {
                 rest: Rest::Show { type_name, next },
             })),
         }
+    }
+
+    // What the host has to show the last operand, as it is read, if it has anything.
+    fn seek_shown(&self, host: &H, position: Position) -> Result<Option<Sought>, OutOfMemory>
+        requires there { 0 < length self.now.stacks.operands }
+        requires readable { is_some (flat self.now.cells (top self.now.stacks.operands).value)
+            ≡ true }
+        ensures { (v : Dynamic) → flat self.now.cells (top self.now.stacks.operands).value ≡ Some v →
+            IfOk result (λ found. SeeksShown H.law host.now v
+            (record (top self.now.stacks.operands) { value = v }) position found) }
+    {
+        let operands = self.stacks.frame_operands();
+        let given = &operands[operands.len() - 1..];
+        let arguments = Arguments::of(self.alloc, &self.cells, given)?;
+        if host.resolve("to_string", &arguments.kinds).is_none() {
+            return Ok(None);
+        }
+        let name = Text::copy_of(self.alloc, "to_string")?;
+        let sought = seek(self.alloc, host, &name, arguments, position)?;
+        Ok(Some(sought))
     }
 
     // The plain text of the last operand, as it is read.

@@ -2,10 +2,11 @@
 
 ghost use Rattle.std.specs.Prelude.{◌≡◌, ◌<◌, ◌≤◌, ◌+◌, ◌∷◌, [], ℕ, List, length, Ok, Some, IfOk, is_ok, is_some, true, slice_get, if◌then◌else◌};
 ghost use Rattle.grain_value.specs.Cells.{flat};
-ghost use Rattle.grain_value.specs.Maps.{Entries};
+ghost use Rattle.grain_value.specs.Maps.{Entries, put_entry};
 ghost use Rattle.grain_value.specs.Operands.{arguments, below, under};
 ghost use Rattle.grain_value.specs.declared.values.Dynamic.{Dynamic};
 ghost use Rattle.grain_value.specs.declared.values.Held.{Held};
+ghost use Rattle.grain_value.specs.View.{tree};
 ghost use Rattle.grain_value.specs.Writing.{type_name_of};
 ghost use Rattle.grain_fault.specs.Problems.{Plain, Malformed};
 ghost use Rattle.grain_fault.specs.declared.faults.MalformedKind.TheVariants as kind;
@@ -26,7 +27,7 @@ use grain_fault::MalformedKind;
 use grain_global::Steps;
 use grain_host::Host;
 use grain_stack::Total;
-use grain_value::{Array, Dynamic, Held, Map, OutOfMemory, Store, calc_data_sizes};
+use grain_value::{Array, Dynamic, Held, Map, OutOfMemory, Store, Text, calc_data_sizes};
 use std::sync::ledger::Ledger;
 
 /// Why keys and values are no pairs of a map.
@@ -55,6 +56,14 @@ fn first_misfit(cells: &Store, held: &[Held], count: usize) -> Option<Misfit>
         }
     }
     None
+}
+
+// Puts a pair into a map. What stood there under the key goes.
+fn put_pair(map: &mut Map, key: Text, value: Dynamic) -> Result<(), OutOfMemory>
+    ensures { IfOk result (λ _. map.new ≡ put_entry key (tree value) map.old) }
+{
+    let _replaced = map.insert(key, value)?;
+    Ok(())
 }
 
 impl<H: Host> Run<H> {
@@ -152,24 +161,26 @@ impl<H: Host> Run<H> {
             Performs (setup_of H.law context.entry) (moment frame.old self.old steps.old host)
             (op.MakeMap count) next result (moment frame.new self.new steps.new host) }
     {
-        let count = usize::from(count);
-        match self.stacks.peek(count + count).value.flat(&self.cells) {
+        let pairs = usize::from(count);
+        match self.stacks.peek(pairs + pairs).value.flat(&self.cells) {
             None => return self.data_race(context, steps, frame.address, ""),
             Some(Dynamic::Map(_)) => {}
-            Some(_) => return self.template_not_map(context, steps, frame.address, count),
+            Some(_) => {
+                return self.template_not_map(context, steps, frame.address, pairs + pairs);
+            }
         }
-        match self.first_misfit(count) {
+        match self.first_misfit(pairs) {
             None => {}
             Some(Misfit::Lent) => return self.data_race(context, steps, frame.address, ""),
             Some(Misfit::Key(index)) => {
-                return self.key_not_text(context, steps, frame.address, count, index);
+                return self.key_not_text(context, steps, frame.address, pairs, index);
             }
         }
         let map = self.take_map(count)?;
-        Ok(self.literal_made(steps, frame, count, Dynamic::Map(map), next))
+        Ok(self.literal_made(steps, frame, pairs, Dynamic::Map(map), next))
     }
 
-    // The fault that what stands under the last operands, `count` pairs, is no map.
+    // The fault that what stands under the last `above` operands is no map.
     #[cold]
     #[inline(never)]
     fn template_not_map<L: Ledger>(
@@ -177,17 +188,17 @@ impl<H: Host> Run<H> {
         context: Context<'_>,
         steps: &mut Steps<L>,
         address: usize,
-        count: usize,
+        above: usize,
     ) -> Result<Progress, OutOfMemory>
-        requires there { count + count < length self.old.stacks.operands }
+        requires there { above < length self.old.stacks.operands }
         requires readable { is_some (flat self.old.cells
-            (operand_under (count + count) self.old.stacks.operands).value) ≡ true }
+            (operand_under above self.old.stacks.operands).value) ≡ true }
         ensures { (v : Dynamic) → flat self.old.cells
-            (operand_under (count + count) self.old.stacks.operands).value ≡ Some v →
+            (operand_under above self.old.stacks.operands).value ≡ Some v →
             Raises self.old steps.old (Plain (Malformed (kind.TemplateNotMap (type_name_of v)))
             (position_of context.entry.program.now address)) result self.new steps.new }
     {
-        let kind = match self.stacks.peek(count + count).value.flat(&self.cells) {
+        let kind = match self.stacks.peek(above).value.flat(&self.cells) {
             Some(value) => value.own_type_name(self.alloc)?,
             None => unreachable!(),
         };
@@ -242,7 +253,7 @@ impl<H: Host> Run<H> {
 
     // Takes the last operands, `count` keys each before its value, and the map under them, with these
     // pairs.
-    fn take_map(&mut self, count: usize) -> Result<Map, OutOfMemory>
+    fn take_map(&mut self, count: u16) -> Result<Map, OutOfMemory>
         requires there { count + count < length self.old.stacks.operands }
         requires template { (es : Entries)
             × (flat self.old.cells (operand_under (count + count) self.old.stacks.operands).value
@@ -266,6 +277,7 @@ impl<H: Host> Run<H> {
               record self.old.stacks { operands = self.new.stacks.operands };
         } }
     {
+        let count = usize::from(count);
         let mut taken = self.stacks.take_off(self.alloc, count + count)?;
         let Dynamic::Map(mut map) = self.take_flat()? else {
             unreachable!();
@@ -277,7 +289,8 @@ impl<H: Host> Run<H> {
             let Dynamic::Text(key) = self.flat_value(key.value)? else {
                 unreachable!();
             };
-            map.insert(key, self.flat_value(held.value)?)?;
+            let value = self.flat_value(held.value)?;
+            put_pair(&mut map, key, value)?;
         }
         Ok(map)
     }

@@ -62,7 +62,7 @@ returns-then-is_too_long g c =
     let engine = c.args.context.engine.now in
     let s = c.args.self.now in
     let f = c.args.frame.now in
-    let b = c.in-Some-Text.buffer.now in
+    let b = c.in-Some-Text.buffer in
     let t = c.args.text.now in
     let read : flat s.cells (operand_under 1 s.stacks.operands).value ≡ Some (dynamic.Text b) =
     search rules in
@@ -84,7 +84,7 @@ returns g c =
     let s = c.args.self.now in
     let f = c.args.frame.now in
     let ops = s.stacks.operands in
-    let b = c.in-Some-Text.buffer.now in
+    let b = c.in-Some-Text.buffer in
     let t = c.args.text.now in
     let read : flat s.cells (operand_under 1 ops).value ≡ Some (dynamic.Text b) = search rules in
     let within : is_over engine.limits.text (length b + length t) ≡ false = search rules in
@@ -94,7 +94,7 @@ returns g c =
     let left : c.take_flat.new.self ≡ record s {
       stacks = record s.stacks { operands = under 2 ops };
     } = rw (below_twice ops c.requires.begins.operands) at less in
-    let whole : c.push_str.new.buffer ≡ b ++ t = search rules in
+    let whole : c.push_str.new.self ≡ b ++ t = search rules in
     let long = length-take (length ops - 2) ops in
     record {
       implements = λ host. implements_after g.H.Host.law p engine f c.push_on.new.frame s

@@ -1,9 +1,9 @@
 -- The native's value is a cell that is lent, or can be read.
-use Rattle.std.proofs.Common.{◌≡◌, ◌∙◌, Err, None, Some, refl, sym, rules}
+use Rattle.std.proofs.Common.{◌≡◌, None, Some, true, refl, rules}
 use Rattle.grain_value.specs.Cells.{flat}
 use Rattle.grain_means.specs.Means.{setup}
 use Rattle.grain_means.specs.Simulation.{stopped, world}
-use Rattle.grain_frame.specs.Abstraction.{abstraction, frame_in}
+use Rattle.grain_frame.specs.Abstraction.{abstraction, frame_in, is_out}
 use Rattle.grain_frame.specs.lemmas.Arms.{implements_as}
 use Rattle.grain_frame.specs.lemmas.Failing.{wants_memory}
 use Rattle.grain_frame.proofs.Appending.{answer_stops}
@@ -41,9 +41,25 @@ returns-in_err-text g c =
     let engine = c.args.context.engine.now in
     let s = c.args.self.now in
     let f = c.args.frame.now in
+    let out : is_out c.from_residual-in_err-text.result ≡ true = search rules in
     record {
       implements = λ host. wants_memory g.H.Host.law p engine f s c.args.steps.now host
-          (Err c.in_err-text.field-0.0) refl c.requires.begins.inside (λ stop u place halts.
+          c.from_residual-in_err-text.result out c.requires.begins.inside (λ stop u place halts.
+          answer_stops (stopped (setup g.H.Host.law p engine) stop) (frame_in f s place)
+          (world (abstraction s c.args.steps.now host) u) halts (flat s.cells c.args.value)
+          c.args.type_name c.args.next);
+    }
+
+pub returns-in_err-value : goal.returns-in_err-read_of
+returns-in_err-value g c =
+    let p = c.args.context.program.now in
+    let engine = c.args.context.engine.now in
+    let s = c.args.self.now in
+    let f = c.args.frame.now in
+    let out : is_out c.from_residual.result ≡ true = search rules in
+    record {
+      implements = λ host. wants_memory g.H.Host.law p engine f s c.args.steps.now host
+          c.from_residual.result out c.requires.begins.inside (λ stop u place halts.
           answer_stops (stopped (setup g.H.Host.law p engine) stop) (frame_in f s place)
           (world (abstraction s c.args.steps.now host) u) halts (flat s.cells c.args.value)
           c.args.type_name c.args.next);

@@ -38,7 +38,7 @@ returns-in-Some-Text g c =
     let s = c.args.self.now in
     let f = c.args.frame.now in
     let host = c.args.host.now in
-    let t = c.in-Some-Text.segment.now in
+    let t = c.in-Some-Text.segment in
     let read : flat s.cells (top s.stacks.operands).value ≡ Some (dynamic.Text t) = search rules in
     record {
       performs = led_exactly c.append.result c.of-in-Some-Text.result c.of-in-Some-Text.ensures
@@ -54,7 +54,7 @@ returns-in_err-segment g c =
     let s = c.args.self.now in
     let f = c.args.frame.now in
     let host = c.args.host.now in
-    let t = c.in-Some-Text.segment.now in
+    let t = c.in-Some-Text.segment in
     let read : flat s.cells (top s.stacks.operands).value ≡ Some (dynamic.Text t) = search rules in
     let out : is_out c.from_residual.result ≡ true = search rules in
     record {

@@ -1,10 +1,11 @@
 -- The elements can be read, and memory is there for them.
-use Rattle.std.proofs.Common.{◌≡◌, ◌∙◌, ◌-◌, [], Some, None, Ok, Err, length, refl, arith, rules}
+use Rattle.std.proofs.Common.{◌≡◌, ◌∙◌, ◌-◌, [], Some, None, Ok, length, true, refl, arith, rules}
 use Rattle.std.proofs.lemmas.List.{length-take}
 use Rattle.grain_value.specs.Operands.{arguments, under}
 use Rattle.grain_fault.specs.Problems.{Plain, DataRace}
 use Rattle.grain_program.specs.View.{position_of}
 use Rattle.grain_means.specs.Rules.{flat_all, race_text, trees_in}
+use Rattle.grain_frame.specs.Abstraction.{is_out}
 use Rattle.grain_frame.specs.lemmas.Arms.{implements_after}
 use Rattle.grain_frame.specs.lemmas.Failing.{raises_here}
 use Rattle.grain_frame.proofs.Flattening.{all_there}
@@ -34,7 +35,7 @@ returns g c =
     let ops = s.stacks.operands in
     let read = all_there (flat_all s.cells (arguments n ops)) (search rules) in
     let made : c.in_ok-array.array ≡ trees_in read.0 =
-    c.in_ok-array.ensures.taken read.0 (rw c.from-count.ensures at read.1) in
+    c.in_ok-array.ensures.taken read.0 (rw c.from-count.ensures read.1) in
     let left : c.take_array.new.self ≡ record s {
       stacks = record s.stacks { operands = under n ops };
     } = rw c.from-count.ensures at c.in_ok-array.ensures.left in
@@ -55,9 +56,10 @@ returns-in_err-array g c =
     let f = c.args.frame.now in
     let read = all_there (flat_all s.cells (arguments c.args.count s.stacks.operands)) (search rules)
     in
+    let out : is_out c.from_residual.result ≡ true = search rules in
     record {
       performs = λ host. wants_with_less g.H.Host.law p c.args.context.engine.now f s
           c.take_array.new.self c.args.steps.now host c.take_array.new.self.stacks.operands
-          (Err c.in_err-array.field-0.0) refl c.requires.ready.inside c.take_array.ensures.others
+          c.from_residual.result out c.requires.ready.inside c.take_array.ensures.others
           (λ stop u place halts. rw (read.1, halts) refl);
     }

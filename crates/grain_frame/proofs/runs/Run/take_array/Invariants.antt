@@ -7,9 +7,9 @@ use Rattle.grain_frame.proofs.runs.Run.take_array.Given as goal
 
 abbrev pub invariant-elements : goal.invariant-elements
 invariant-elements g l = (left : List Held)
-    × (flat_all l.self.cells (reverse l.taken.items) ≡ Some left)
+    × (flat_all l.fn.self.cells (reverse l.taken.items) ≡ Some left)
     × ((args : List Held) →
-    flat_all l.initial.self.cells (arguments l.count l.fn.self.stacks.operands) ≡ Some args →
+    flat_all l.fn.self.cells (arguments l.fn.count l.fn.self.stacks.operands) ≡ Some args →
     l.array ++ trees_in left ≡ trees_in args)
 
 abbrev pub decreases-elements : goal.decreases-elements

@@ -10,11 +10,11 @@ use Rattle.grain_frame.proofs.runs.Run.take_map.Given as goal
 abbrev pub invariant-pairs : goal.invariant-pairs
 invariant-pairs g l = record {
   many : (n : ℕ) × (length l.taken.items ≡ n + n);
-  are : (ds : Entries) × (pairs_of l.self.cells (reverse l.taken.items) l.map ≡ PairsAre ds)
+  are : (ds : Entries) × (pairs_of l.fn.self.cells (reverse l.taken.items) l.map ≡ PairsAre ds)
       × ((es fs : Entries) →
-      flat l.fn.self.cells (operand_under (l.count + l.count) l.fn.self.stacks.operands).value
+      flat l.fn.self.cells (operand_under (l.fn.count + l.fn.count) l.fn.self.stacks.operands).value
       ≡ Some (dynamic.Map es) →
-      pairs_of l.fn.self.cells (arguments (l.count + l.count) l.fn.self.stacks.operands) es
+      pairs_of l.fn.self.cells (arguments (l.fn.count + l.fn.count) l.fn.self.stacks.operands) es
       ≡ PairsAre fs → fs ≡ ds);
 }
 
