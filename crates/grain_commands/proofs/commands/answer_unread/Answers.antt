@@ -7,11 +7,11 @@ use Rattle.grain_commands.proofs.commands.answer_unread.Goals as goal
 pub returns-in-None : goal.returns-in-None
 returns-in-None g c = λ input.
     let none : self_number (map string_bytes c.args.words.now) ≡ None = search rules in
-    unknown_answered (map string_bytes c.args.words.now) input c.usage.result c.requires none
+    unknown_answered (map string_bytes c.args.words.now) input c.usage.result c.requires.unread none
     c.usage.ensures.status c.usage.ensures.text
 
 pub returns-in-Some : goal.returns-in-Some
 returns-in-Some g c = λ input.
     let some : self_number (map string_bytes c.args.words.now) ≡ Some c.in-Some.count = search rules in
     self_answered (map string_bytes c.args.words.now) input c.in-Some.count c.run_self.result
-    c.requires some c.run_self.ensures
+    c.requires.unread some c.run_self.ensures
