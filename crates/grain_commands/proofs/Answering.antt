@@ -14,7 +14,8 @@ use Rattle.grain_commands.specs.Runs.{Reported, engine_of, start}
 use Rattle.grain_listing.specs.declared.reasons.BadLine.{BadLine}
 use Rattle.grain_commands.specs.declared.replies.Reply.{Reply}
 
-pub answers_reason : (told : Bool) (said : Result ListingView BadLine) (e : BadLine) (r : Result Reply OutOfMemory) →
+pub answers_reason : (told : Bool) (said : Result ListingView BadLine) (e : BadLine)
+    (r : Result Reply OutOfMemory) →
     IfOk r (λ x. x.status ≡ 3) → IfOk r (λ x. x.text ≡ bad_line_text e) → Err e ≡ said →
     IfOk r (λ x. Replies told said x.status x.text)
 answers_reason told said e (Err m) status text is = tt

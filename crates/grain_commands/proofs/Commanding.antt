@@ -55,7 +55,7 @@ pub of_self : (words : List (List ℕ)) (input : Option (List ℕ)) (n : ℕ)
     reads (self_listing n) ≡ said →
     Replies true said status text → Answers words input status text
 of_self words input n said status text run some is reply =
-    replied (rw (run, some) refl) (rw some is) (rw some reply)
+    replied {said = said} (rw (run, some) refl) (rw some is) (rw some reply)
 
 -- the same of a reply, unless memory ran out
 pub unknown_answered : (words : List (List ℕ)) (input : Option (List ℕ)) (r : Result Reply OutOfMemory) →

@@ -33,7 +33,8 @@ pub same_set_up : (said : Result ListingView BadLine) (s t : ListingView) → sa
 same_set_up said s t one other = cc
 
 -- the end that is reported is the end that the program means
-same_report : MeansOne → (told : Bool) (s : ListingView) (end : Finish TableHost) (n status : ℕ) (text : List ℕ) →
+same_report : MeansOne → (told : Bool) (s : ListingView) (end : Finish TableHost) (n status : ℕ)
+    (text : List ℕ) →
     Means table_law s.parts (engine_of s.limits s.fast_operators s.strict_properties)
     (start s.scope s.host) end n →
     Reported told s.parts (engine_of s.limits s.fast_operators s.strict_properties)
@@ -46,7 +47,8 @@ same_report law told s end n status text means ends =
       ends.written ∙ ap (λ (x : Finish TableHost). answer_text told x x.answer) (sym one.0),
     )
 
-same_end : MeansOne → (told : Bool) (said : Result ListingView BadLine) (s : ListingView) (end : Finish TableHost)
+same_end : MeansOne → (told : Bool) (said : Result ListingView BadLine) (s : ListingView)
+    (end : Finish TableHost)
     (n status : ℕ)
     (text : List ℕ) → said ≡ Ok s → IsProgram s.parts →
     Means table_law s.parts (engine_of s.limits s.fast_operators s.strict_properties)
@@ -58,7 +60,8 @@ same_end law told said s end n status text is valid means (refused {s = t} e inv
     absurd (invalid (subst (λ (x : ListingView). IsProgram x.parts) (same_set_up said t s e is) valid))
 same_end law told said s end n status text is valid means (reported {s = t} e v h) =
     same_report law told s end n status text means
-    (subst (λ (x : ListingView). Reported told x.parts (engine_of x.limits x.fast_operators x.strict_properties)
+    (subst (λ (x : ListingView). Reported told x.parts
+    (engine_of x.limits x.fast_operators x.strict_properties)
     (start x.scope x.host) status text)
     (same_set_up said s t is e) h)
 
@@ -70,7 +73,8 @@ same_reason told said bad status text is (no_listing {bad = r} e) =
 same_reason told said bad status text is (refused e invalid first) = absurd cc
 same_reason told said bad status text is (reported e v h) = absurd cc
 
-same_refusal : RefusedOnce → (told : Bool) (said : Result ListingView BadLine) (s : ListingView) (r : Refusal) (status : ℕ)
+same_refusal : RefusedOnce → (told : Bool) (said : Result ListingView BadLine) (s : ListingView)
+    (r : Refusal) (status : ℕ)
     (text : List ℕ) → said ≡ Ok s → (IsProgram s.parts → ⊥) → IsRefusal s.parts r →
     Replies told said status text → (status ≡ 4) × (text ≡ refusal_text r)
 same_refusal law told said s r status text is invalid first (no_listing e) = absurd cc
@@ -133,8 +137,8 @@ only_end : MeansOne → (words : List (List ℕ)) (input : Option (List ℕ)) (b
 only_end law words input bytes end command told run =
     only_reply words input bytes (Ok run.set_up) (status_of end.answer)
     (answer_text (tells_operations words) end end.answer) command told run.said
-    (λ said n t is reply. same_end law (tells_operations words) said run.set_up end run.instructions n t is run.valid
-    run.means reply)
+    (λ said n t is reply. same_end law (tells_operations words) said run.set_up end run.instructions n t is
+    run.valid run.means reply)
 
 -- the answer alone is the end's, by its trace
 end_at : (told : Bool) (end : Finish TableHost) (a : Answer) → end.answer ≡ a →
@@ -175,7 +179,7 @@ completed means refuses words input before now counts status ended = record {
   refused = λ command none bytes told refusal h.
       given words input before now counts status 4 (refusal_text refusal)
       (only_reply words input bytes (Ok h.set_up) 4 (refusal_text refusal) command told h.said
-      (λ said n t e reply. same_refusal refuses (tells_operations words) said h.set_up refusal n t e h.invalid h.first
-      reply))
+      (λ said n t e reply. same_refusal refuses (tells_operations words) said h.set_up refusal n t e
+      h.invalid h.first reply))
       (λ _. none.source) none.sink ended;
 }

@@ -159,7 +159,8 @@ given_at end a before now status is gives =
     (sym is) gives
 
 pub prints_core_end : CoreIsMeant → MeansCore → (words : List (List ℕ))
-    (input before now : Option (List ℕ)) (counts : Counts) (status : ℕ) → Beside words input before now counts status →
+    (input before now : Option (List ℕ)) (counts : Counts) (status : ℕ) →
+    Beside words input before now counts status →
     Completes words input before now counts status →
     PrintsCoreEnd words input before now counts status
 prints_core_end all of_core words input before now counts status beside completes = record {

@@ -34,7 +34,8 @@ usage_says words input none = record {
 
 value_says : (words : List (List ℕ)) (input : Option (List ℕ)) (v : Dynamic)
     (end : Finish TableHost) →
-    is_command words ≡ true → end.answer ≡ Came v → IfSome (listing_for words input) (λ bytes. RunEnds bytes end) →
+    is_command words ≡ true → end.answer ≡ Came v → IfSome (listing_for words input)
+    (λ bytes. RunEnds bytes end) →
     Says words input 0 (value_text (tells_operations words) end v)
 value_says words input v end command is run = record {
   known = omega arith;
@@ -48,7 +49,8 @@ value_says words input v end command is run = record {
 
 fault_says : (words : List (List ℕ)) (input : Option (List ℕ)) (p : Problem)
     (end : Finish TableHost) →
-    is_command words ≡ true → end.answer ≡ Failed p → IfSome (listing_for words input) (λ bytes. RunEnds bytes end) →
+    is_command words ≡ true → end.answer ≡ Failed p → IfSome (listing_for words input)
+    (λ bytes. RunEnds bytes end) →
     Says words input 1 (end.host.printed ++ report_fault p end.trace)
 fault_says words input p end command is run = record {
   known = omega arith;
@@ -114,7 +116,8 @@ reply_says words input said status text command told (refused {s} {r} e invalid 
     (where_told (listing_for words input) (λ bytes. reads bytes ≡ said) (λ bytes. IsRefused bytes r)
     (λ bytes h. record { set_up = s; said = h ∙ e; invalid = invalid; first = first }) told)
 reply_says words input said status text command told (reported {s} e valid h) =
-    let run = where_told (listing_for words input) (λ bytes. reads bytes ≡ said) (λ bytes. RunEnds bytes h.end)
+    let run = where_told (listing_for words input) (λ bytes. reads bytes ≡ said)
+    (λ bytes. RunEnds bytes h.end)
     (λ bytes is. record {
       set_up = s;
       said = is ∙ e;

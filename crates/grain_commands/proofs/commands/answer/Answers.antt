@@ -17,7 +17,8 @@ returns-in_ok-reply-in-Ok-clause-answers g c =
     let end = rw c.in-Ok.is at c.in_ok-failed.ensures.end in
     replied (run_commands (map string_bytes c.args.words.now) yes)
     (of_source (map string_bytes c.args.words.now) (g.S.Source.left c.args.source.now) yes
-    (λ bytes. reads bytes ≡ reads c.in-Ok.bytes.items) (same_reading c.in-Ok.bytes.items (g.S.Source.left c.read_all.new.source)
+    (λ bytes. reads bytes ≡ reads c.in-Ok.bytes.items)
+    (same_reading c.in-Ok.bytes.items (g.S.Source.left c.read_all.new.source)
     (g.S.Source.left c.args.source.now) all end))
     (untold (map string_bytes c.args.words.now) yes (reads c.in-Ok.bytes.items)
     c.in_ok-reply-in-Ok.reply.status c.in_ok-reply-in-Ok.reply.text reply)
@@ -28,7 +29,8 @@ returns-in_ok-reply-in-Ok-clause-through g c =
     c.in_ok-reply-in-Ok.reply.text = rw (← c.as_slice.ensures.value)
     c.in_ok-reply-in-Ok.ensures in
     let end = rw c.in-Ok.is at c.in_ok-failed.ensures.end in
-    read_through (map string_bytes c.args.words.now) false c.in-Ok.bytes.items (g.S.Source.left c.read_all.new.source)
+    read_through (map string_bytes c.args.words.now) false c.in-Ok.bytes.items
+    (g.S.Source.left c.read_all.new.source)
     c.in_ok-reply-in-Ok.reply.status c.in_ok-reply-in-Ok.reply.text end reply
 
 pub returns-in_err-reply-clause-reads : goal.returns-in_err-reply-clause-reads
