@@ -1,14 +1,28 @@
 -- The native is sought for the last operand alone, as it is read.
-use Rattle.std.proofs.Common.{◌≡◌, ◌∙◌, ◌∷◌, [], List, None, Some, ℕ, false, ap, rules, sym}
-use Rattle.std.specs.Prelude.{is_none}
+use Rattle.std.proofs.Common.{◌≡◌, ◌∙◌, ◌∷◌, [], List, None, Option, Some, ℕ, false, ap, rules, sym}
+use Rattle.std.specs.Prelude.{is_none, is_some}
+use Rattle.grain_value.specs.Cells.{flat}
 use Rattle.grain_value.specs.Operands.{top}
 use Rattle.grain_value.specs.Writing.{kind_of}
+use Rattle.grain_value.specs.declared.values.Held.{Held}
 use Rattle.grain_host.specs.Law.{native_of}
 use Rattle.grain_means.specs.Rules.{to_string}
 use Rattle.grain_frame.specs.Natives.{Describes, Seeks}
 use Rattle.grain_frame.proofs.Appending.{alone_read, native_there}
-use Rattle.grain_frame.proofs.Flattening.{last_read}
+use Rattle.grain_frame.proofs.Flattening.{last_read, value_there}
 use Rattle.grain_frame.proofs.runs.Run.seek_shown.Goals as goal
+
+pub of-requires : goal.of-requires
+of-requires g c =
+    let s = c.args.self.now in
+    let ops = s.stacks.operands in
+    let v = value_there (flat s.cells (top ops).value) c.requires.readable in
+    let are = alone_read s.cells ops v.0 c.requires.there v.1 in
+    record {
+      readable = ap (λ (o : Option (List Held)). is_some o) (last_read s.cells 1 ops
+          c.frame_operands-operands.result.now (record (top ops) { value = v.0 } ∷ [])
+          c.frame_operands-operands.ensures are);
+    }
 
 pub returns-then-is_none : goal.returns-then-is_none
 returns-then-is_none g c = λ v read.

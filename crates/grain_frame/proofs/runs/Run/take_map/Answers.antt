@@ -25,13 +25,16 @@ pairs-init g c =
     let back : reverse c.in_ok-taken.taken.items ≡ given =
     ap (λ (hs : List Held). reverse hs) taken ∙ reverse-reverse given in
     record {
-      many = (n, omega (
-        arith,
-        ap (λ (hs : List Held). length hs) taken,
-        length-reverse given,
-        length-drop (length ops - (n + n)) ops,
-        c.requires.there,
-      ));
+      many = (
+        n,
+        omega (
+          arith,
+          ap (λ (hs : List Held). length hs) taken,
+          length-reverse given,
+          length-drop (length ops - (n + n)) ops,
+          c.requires.there,
+        ),
+      );
       are = (
         are.0,
         ap (λ (hs : List Held). pairs_of s.cells hs gs) back ∙ are.1,
@@ -56,14 +59,17 @@ pairs-preserved g c =
     let grown : c.put_pair.new.map ≡ put_entry c.in-Text.key (tree c.in_ok-value.value) c.pairs.map =
     c.in_ok-put_pair.ensures in
     record {
-      many = (was.many.0 - 1, omega (
-        arith,
-        was.many.1,
-        ap (λ (hs : List Held). length hs) first,
-        length-append more (k ∷ []),
-        ap (λ (hs : List Held). length hs) second,
-        length-append now (h ∷ []),
-      ));
+      many = (
+        was.many.0 - 1,
+        omega (
+          arith,
+          was.many.1,
+          ap (λ (hs : List Held). length hs) first,
+          length-append more (k ∷ []),
+          ap (λ (hs : List Held). length hs) second,
+          length-append now (h ∷ []),
+        ),
+      );
       are = (
         was.are.0,
         pair_more cells items more now k h first second c.pairs.map was.are.0 was.are.1 c.in-Text.key
