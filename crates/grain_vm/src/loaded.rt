@@ -13,6 +13,7 @@ ghost use Rattle.grain_vm.specs.Attempts.{Unchanged, OnTrue, OnFalse};
 ghost use Rattle.grain_vm.specs.Following.{PerformsOn, loaded, judged, without_two, begun_behind};
 ghost use Rattle.grain_program.specs.declared.code.instruction_set.Op.TheVariants as op;
 
+use crate::two_loads::const_loaded;
 use grain_frame::{Activation, Context, Progress, Run, agrees, quick_assigned_with};
 use grain_global::Steps;
 use grain_host::Host;
@@ -52,6 +53,47 @@ pub(crate) fn quick_loaded<H: Host, L: Ledger>(
             op_loaded(
                 run, context, steps, frame, integer, next, name, count, token, width,
             )
+        }
+        (_, _) => false,
+    }
+}
+
+// The same after the load of an entry, and also where a constant is loaded next, and both are taken by the
+// operator after that. After the load of a constant that is rare, and would make the loop longer.
+#[inline(always)]
+pub(crate) fn quick_local_loaded<H: Host, L: Ledger>(
+    run: &mut Run<H>,
+    context: Context<'_>,
+    steps: &mut Steps<L>,
+    frame: &mut Activation,
+    integer: i64,
+    next: usize,
+) -> bool
+    requires runs { Runs context.program.now (moved frame.old next)
+        (loaded run.old integer) }
+    ensures stepped { OnTrue result ((host : H) →
+        Stepped (setup_of H.law context.entry) (moment (moved frame.old next)
+        (loaded run.old integer) (begun_behind steps.old) host) (Ok Progress.Continues)
+        (moment frame.new run.new steps.new host)) }
+    ensures undone { OnFalse result
+        (Unchanged frame.old run.old steps.old frame.new run.new steps.new) }
+{
+    let depth = run.stacks.frame_operands().len() + 1;
+    match context.program.fetch(frame.chunk, next, depth) {
+        (Op::AssignLocalOp(slot, name, op), width) => {
+            let after = next + width;
+            assign_loaded(
+                run, context, steps, frame, integer, next, slot, name, op, after,
+            )
+        }
+        (Op::CallOp(name, count, token), width) => {
+            op_loaded(
+                run, context, steps, frame, integer, next, name, count, token, width,
+            )
+        }
+        (Op::LoadConst(constant), width) => {
+            let after = next + width;
+            const_loaded(run, context, steps, frame, integer, next, constant, after)
         }
         (_, _) => false,
     }
@@ -287,7 +329,7 @@ fn operation_loaded<H: Host>(
 
 // Counts the load as done, and the instruction after it as begun.
 #[inline(always)]
-fn begin_behind<L: Ledger>(steps: &mut Steps<L>)
+pub(crate) fn begin_behind<L: Ledger>(steps: &mut Steps<L>)
     ensures { steps.new ≡ begun_behind steps.old }
 {
     steps.mark();
