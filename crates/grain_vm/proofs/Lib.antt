@@ -6,6 +6,7 @@ mod Branching
 mod Loading
 mod Evaluated
 mod Headline
+mod Paired
 mod Pairs
 mod Calling
 mod Entering

@@ -27,6 +27,7 @@ mod receiver_ends;
 mod receivers;
 mod roots;
 mod stepping;
+mod two_loads;
 mod vms;
 mod walk_natives;
 

@@ -13,6 +13,7 @@ ghost use Rattle.grain_vm.specs.Attempts.{Unchanged, OnTrue, OnFalse};
 ghost use Rattle.grain_vm.specs.Following.{PerformsOn, loaded, judged, without_two, begun_behind};
 ghost use Rattle.grain_program.specs.declared.code.instruction_set.Op.TheVariants as op;
 
+use crate::two_loads::const_loaded;
 use grain_frame::{Activation, Context, Progress, Run, agrees, quick_assigned_with};
 use grain_global::Steps;
 use grain_host::Host;
@@ -52,6 +53,10 @@ pub(crate) fn quick_loaded<H: Host, L: Ledger>(
             op_loaded(
                 run, context, steps, frame, integer, next, name, count, token, width,
             )
+        }
+        (Op::LoadConst(constant), width) => {
+            let after = next + width;
+            const_loaded(run, context, steps, frame, integer, next, constant, after)
         }
         (_, _) => false,
     }
@@ -287,7 +292,7 @@ fn operation_loaded<H: Host>(
 
 // Counts the load as done, and the instruction after it as begun.
 #[inline(always)]
-fn begin_behind<L: Ledger>(steps: &mut Steps<L>)
+pub(crate) fn begin_behind<L: Ledger>(steps: &mut Steps<L>)
     ensures { steps.new ≡ begun_behind steps.old }
 {
     steps.mark();
