@@ -62,6 +62,47 @@ pub(crate) fn quick_loaded<H: Host, L: Ledger>(
     }
 }
 
+// The same after the load of an entry, and also where a constant is loaded next, and both are taken by the
+// operator after that. After the load of a constant that is rare, and would make the loop longer.
+#[inline(always)]
+pub(crate) fn quick_local_loaded<H: Host, L: Ledger>(
+    run: &mut Run<H>,
+    context: Context<'_>,
+    steps: &mut Steps<L>,
+    frame: &mut Activation,
+    integer: i64,
+    next: usize,
+) -> bool
+    requires runs { Runs context.program.now (moved frame.old next)
+        (loaded run.old integer) }
+    ensures stepped { OnTrue result ((host : H) →
+        Stepped (setup_of H.law context.entry) (moment (moved frame.old next)
+        (loaded run.old integer) (begun_behind steps.old) host) (Ok Progress.Continues)
+        (moment frame.new run.new steps.new host)) }
+    ensures undone { OnFalse result
+        (Unchanged frame.old run.old steps.old frame.new run.new steps.new) }
+{
+    let depth = run.stacks.frame_operands().len() + 1;
+    match context.program.fetch(frame.chunk, next, depth) {
+        (Op::AssignLocalOp(slot, name, op), width) => {
+            let after = next + width;
+            assign_loaded(
+                run, context, steps, frame, integer, next, slot, name, op, after,
+            )
+        }
+        (Op::CallOp(name, count, token), width) => {
+            op_loaded(
+                run, context, steps, frame, integer, next, name, count, token, width,
+            )
+        }
+        (Op::LoadConst(constant), width) => {
+            let after = next + width;
+            const_loaded(run, context, steps, frame, integer, next, constant, after)
+        }
+        (_, _) => false,
+    }
+}
+
 // `assign_local_op` to an entry that is an integer, with the integer that is loaded. If it says
 // false, nothing was done.
 #[inline(always)]

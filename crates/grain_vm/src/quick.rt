@@ -15,7 +15,7 @@ ghost use Rattle.grain_vm.specs.Following.{PerformsOn};
 ghost use Rattle.grain_program.specs.declared.code.instruction_set.Op.TheVariants as op;
 
 use crate::branches::quick_branch;
-use crate::loaded::quick_loaded;
+use crate::loaded::{quick_loaded, quick_local_loaded};
 use grain_frame::{Activation, Context, Progress, Run, agrees, quick_assigned};
 use grain_global::Steps;
 use grain_host::Host;
@@ -88,7 +88,7 @@ pub(crate) fn quick_local<H: Host, L: Ledger>(
         Some(held) => match &held.value {
             Dynamic::Int(integer) => {
                 let integer = *integer;
-                if quick_loaded(run, context, steps, frame, integer, next) {
+                if quick_local_loaded(run, context, steps, frame, integer, next) {
                     return true;
                 }
                 if !run.stacks.push_int(integer) {

@@ -7,8 +7,8 @@ use Rattle.grain_vm.specs.Following.{loaded}
 use Rattle.grain_vm.proofs.Loading.{loads_local}
 use Rattle.grain_vm.proofs.quick.quick_local.Goals as goal
 
-pub returns-then-quick_loaded-clause-performs : goal.returns-then-quick_loaded-clause-performs
-returns-then-quick_loaded-clause-performs g c =
+pub returns-then-quick_local_loaded-clause-performs : goal.returns-then-quick_local_loaded-clause-performs
+returns-then-quick_local_loaded-clause-performs g c =
     let p = c.args.context.program.now in
     let e = c.args.context.engine.now in
     let f = c.args.frame.now in
@@ -25,7 +25,7 @@ returns-then-quick_loaded-clause-performs g c =
       counts = marked_once c.args.steps.now;
       first = loads_local g.H.Host.law p e f s z c.args.slot c.args.next c.args.steps.now host held
           c.requires.ready there c.in-Int.is;
-      second = rw (to_z-of_z w64 z z_fits) at (c.if-quick_loaded.ensures.stepped host);
+      second = rw (to_z-of_z w64 z z_fits) at (c.if-quick_local_loaded.ensures.stepped host);
     })
 
 pub returns-else-not-push_int-clause-performs : goal.returns-else-not-push_int-clause-performs
@@ -40,7 +40,7 @@ returns-else-not-push_int-clause-performs g c =
     let found : held_at s.scope c.slot_index-index.result ≡ Some held = search rules in
     let there : held_at s.scope (f.base + c.args.slot) ≡ Some held =
     rw (← c.slot_index-index.ensures) found in
-    let undone = c.if-quick_loaded.ensures.undone in
+    let undone = c.if-quick_local_loaded.ensures.undone in
     let put = rw (undone.0, to_z-of_z w64 z z_fits) at c.if-not-push_int.ensures in
     λ host. inl (rw (put, c.mark.ensures, undone.0, undone.1, undone.2)
     (loads_local g.H.Host.law p e f s z c.args.slot c.args.next c.args.steps.now host held
