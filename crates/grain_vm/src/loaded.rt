@@ -54,10 +54,6 @@ pub(crate) fn quick_loaded<H: Host, L: Ledger>(
                 run, context, steps, frame, integer, next, name, count, token, width,
             )
         }
-        (Op::LoadConst(constant), width) => {
-            let after = next + width;
-            const_loaded(run, context, steps, frame, integer, next, constant, after)
-        }
         (_, _) => false,
     }
 }
