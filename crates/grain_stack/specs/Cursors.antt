@@ -1,5 +1,5 @@
 -- The items that a cursor has left.
-use Rattle.std.specs.Prelude.{◌≡◌, ◌<ℤ◌, ◌+ℤ◌, ◌^◌, ℕ, ℤ, pos, if◌then◌else◌, List, [], ◌∷◌, map, drop, Option, Some, None}
+use Rattle.std.specs.Prelude.{◌≡◌, ◌<ℤ◌, ◌+ℤ◌, ◌^◌, ℕ, ℤ, pos, negsuc, if◌then◌else◌, List, [], ◌∷◌, map, drop, Option, Some, None}
 use Rattle.std.specs.Str.{chars, is_utf8}
 use Rattle.grain_value.specs.Items.{integers_in}
 use Rattle.grain_value.specs.Tree.{Tree, integer, character}
@@ -49,12 +49,16 @@ BeginsWith (left.Bytes bytes next) z = ⊥
 BeginsWith (left.Characters text next) z = ⊥
 BeginsWith (left.Range from to inclusive) z = (from ≡ z) × (z <ℤ to)
 
--- the cursor goes over a range, and comes to this integer next and to another one after it; to both
--- the integer and the count one can be added in 64 bits
+-- an integer of 64 bits
+abbrev pub Fits64 : ℤ → Type 0
+Fits64 z = (negsuc (2 ^ 63) <ℤ z) × (z <ℤ pos (2 ^ 63))
+
+-- the cursor goes over a range, comes to this integer next and to another one after it, and can count
+-- one more
 pub record HasNext (c : Cursor) (z : ℤ) : Type 0 where
   pub begins : BeginsWith c.left z
-  pub rises : (z +ℤ pos 1) <ℤ pos (2 ^ 63)
-  pub counts : (c.counter +ℤ pos 1) <ℤ pos (2 ^ 63)
+  pub rises : Fits64 (z +ℤ pos 1)
+  pub counts : Fits64 (c.counter +ℤ pos 1)
 
 -- this was the first of the items that the cursor had left; it no longer is, and was counted
 pub record Passes (c : Cursor) (z : ℤ) (d : Cursor) : Type 0 where
