@@ -1,9 +1,9 @@
 //! Cursors: what a loop still goes over.
 
-ghost use Rattle.std.specs.Prelude.{◌≡◌, ◌<◌, drop, negsuc, Some, None, is_none, IfOk, IfErr, IfSome};
+ghost use Rattle.std.specs.Prelude.{◌≡◌, ◌<◌, drop, negsuc, Some, None, is_none, IfOk, IfErr};
 ghost use Rattle.grain_value.specs.Items.{items_of, integers_in};
 ghost use Rattle.grain_value.specs.declared.values.Dynamic.TheVariants as dynamic;
-ghost use Rattle.grain_stack.specs.Cursors.{items_left, first_cell, Gives, IsRange, HasNext, Passes, bytes_in, characters_in};
+ghost use Rattle.grain_stack.specs.Cursors.{items_left, first_cell, Gives, IsRange, bytes_in, characters_in};
 ghost use Rattle.grain_stack.specs.Entries.{first_of};
 
 use grain_value::{Array, Blob, Dynamic, Text};
@@ -88,37 +88,6 @@ impl Cursor {
         ensures counter { self.new.counter ≡ self.old.counter }
     {
         self.left.next()
-    }
-
-    /// The integer that comes first, where a range is left of which it is not the last, and one more
-    /// can be counted. It says nothing of other cursors.
-    #[inline(always)]
-    pub fn next_integer(&self) -> Option<i64>
-        ensures { IfSome result (λ z. HasNext self.now z) }
-    {
-        match &self.left {
-            Left::Range { from, to, .. } => {
-                if *from < *to && self.counter < i64::MAX {
-                    Some(*from)
-                } else {
-                    None
-                }
-            }
-            _ => None,
-        }
-    }
-
-    /// The integer that comes first is no longer left, and is counted.
-    #[inline(always)]
-    pub fn pass(&mut self, first: i64)
-        requires { HasNext self.old first }
-        ensures { Passes self.old first self.new }
-    {
-        match &mut self.left {
-            Left::Range { from, .. } => *from = first + 1,
-            _ => unreachable!(),
-        }
-        self.counter += 1;
     }
 }
 

@@ -4,6 +4,7 @@ mod Tried
 mod Mains
 mod Branching
 mod Loading
+mod Nexts
 mod Evaluated
 mod Headline
 mod Paired

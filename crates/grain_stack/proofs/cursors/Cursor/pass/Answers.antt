@@ -1,7 +1,7 @@
 -- The range begins one further on, and the count is one more.
 use Rattle.std.proofs.Common.{rules, ◌≡◌, pos, ◌+ℤ◌, ◌<ℤ◌, refl, sym, subst, to_z, of_z, FitsSigned, w64, arith}
 use Rattle.std.proofs.lemmas.Int.{ints}
-use Rattle.grain_stack.specs.Cursors.{BeginsWith}
+use Rattle.grain_stack.specs.Ranges.{BeginsWith}
 use Rattle.grain_stack.specs.declared.cursors.Left.{Left}
 use Rattle.grain_stack.specs.declared.cursors.Left.TheVariants as left
 use Rattle.grain_stack.proofs.Items.{next_below}
