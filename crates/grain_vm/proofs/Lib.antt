@@ -4,7 +4,6 @@ mod Tried
 mod Mains
 mod Branching
 mod Loading
-mod Nexts
 mod Evaluated
 mod Headline
 mod Paired
