@@ -1,4 +1,5 @@
 pub mod Cursors
+pub mod Ranges
 pub mod Entries
 pub mod LentEntries
 pub mod Lending

@@ -72,6 +72,7 @@ impl<T: Drop> FrameEntries<T> {
     }
 
     /// The newest entry of the innermost frame, which is at this depth, if it has one.
+    #[inline(always)]
     pub fn innermost(&self, depth: usize) -> Option<&T>
         requires { IsOrdered depth self.now }
         ensures { option_copied result ≡ first_of (entries_at depth self.now) }
@@ -114,6 +115,7 @@ impl<T: Drop> FrameEntries<T> {
     ghost use Rattle.grain_stack.specs.LentEntries.{LendsNewest};
 
     /// The newest entry, to be changed.
+    #[inline(always)]
     pub fn newest_mut(&mut self) -> &mut T
         requires there { 0 < length self.old }
         ensures* writes_back { sem 𝓛 (LendsNewest T.row self.entry result) }

@@ -6,6 +6,7 @@ mod cursors;
 mod floors;
 mod frame_entries;
 mod handlers;
+mod ranges;
 mod slots;
 mod stacks;
 mod totals;

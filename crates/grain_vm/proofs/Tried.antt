@@ -1,5 +1,5 @@
 -- From what an instruction that was tried did to what came of it.
-use Rattle.std.proofs.Common.{◌≡◌, ◌+◌, ℕ, List, Option, Some, Bool, true, false, inl, inr, Result, Ok, length, sym, subst, ap, ◌∙◌}
+use Rattle.std.proofs.Common.{◌≡◌, ◌+◌, ℕ, List, Option, Some, Bool, true, false, inl, inr, Result, Ok, length, refl, sym, subst, ap, ◌∙◌}
 use Rattle.grain_value.specs.declared.memory.OutOfMemory.{OutOfMemory}
 use Rattle.grain_program.specs.declared.code.instruction_set.Op.{Op}
 use Rattle.grain_vm.specs.declared.attempts.Attempt.{Attempt}
@@ -23,7 +23,9 @@ use Rattle.grain_frame.specs.declared.runs.Progress.{Progress}
 use Rattle.grain_frame.specs.declared.runs.Progress.TheVariants as progress
 use Rattle.grain_frame.specs.declared.runs.Run.{Run}
 use Rattle.grain_vm.specs.Following.{PerformsOn}
-use Rattle.grain_frame.specs.lemmas.Arms.{stepped}
+use Rattle.grain_frame.specs.Looping.{PerformsLoop}
+use Rattle.grain_frame.specs.lemmas.Arms.{stands, stepped}
+use Rattle.grain_frame.specs.lemmas.Looping.{arm_loop}
 use Rattle.grain_vm.proofs.Turns.{both}
 
 -- what follows from what a try did
@@ -85,6 +87,27 @@ module _ {H : Type 0} (law : Law H) (p : View) (engine : Engine) (f : Activation
         StandsAtJump p f s target → Attempted (setup law p engine) f s n f' s' n' a
     tried_or true target a e does undone at = rw e (λ host. does_step host host (does host))
     tried_or false target a e does undone at = rw e (undone, at)
+
+  -- an instruction that changes the cursors was tried, and it is no call
+  pub tried_loop : (read : op_at p.code f.address ≡ Some (said, width)) (n : StepsView)
+      (f' : Activation) (s' : Run H) (n' : StepsView) (b : Bool) (a : Attempt) → a ≡ attempt_of b →
+      OnTrue b ((host : H) → PerformsLoop (setup law p engine) (moment f s n host) o
+      (f.address + width) (Ok progress.Continues) (moment f' s' n' host)) →
+      OnFalse b (Unchanged f s n f' s' n') → IsNoCall o →
+      Attempted (setup law p engine) f s n f' s' n' a
+  tried_loop read n f' s' n' b a e does undone other =
+      let calls : CallsNothing p f = no_call read other in
+      rw e (attempted law p engine f f' s s' n n' b (tried b does (λ d host. on host (d host)))
+      undone calls) where
+        on : (host : H) →
+            PerformsLoop (setup law p engine) (moment f s n host) o (f.address + width)
+            (Ok progress.Continues) (moment f' s' n' host) →
+            Stepped (setup law p engine) (moment f s n host) (Ok progress.Continues)
+            (moment f' s' n' host)
+        on host did =
+            arm_loop {law = law} {p = p} {engine = engine} {f = f} {f' = f'} {s = s} {s' = s'}
+            {n = n} {n' = n'} {host = host} {host' = host} {said = o} {o = o} refl
+            (stands law p engine f s said o width depth is deep runs seen read) runs did
 
   -- an instruction was tried, perhaps with the one after it, and it is no call
   pub tried_on : (read : op_at p.code f.address ≡ Some (said, width))

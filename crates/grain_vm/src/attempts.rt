@@ -4,7 +4,10 @@ ghost use Rattle.std.specs.Prelude.{◌≡◌};
 ghost use Rattle.grain_frame.specs.Abstraction.{Runs, setup_of};
 ghost use Rattle.grain_vm.specs.Attempts.{Attempted, IsPending, IsWay, attempt_of, attempt_or};
 
-use crate::quick::{quick_assign, quick_const, quick_jump, quick_jump_if, quick_local, quick_op};
+use crate::quick::{
+    quick_assign, quick_const, quick_jump, quick_jump_if, quick_local, quick_next, quick_op,
+    quick_store,
+};
 use grain_frame::{Activation, Context, Run};
 use grain_global::Steps;
 use grain_host::Host;
@@ -100,6 +103,12 @@ pub(crate) fn quick<H: Host, L: Ledger>(
         (Op::AssignLocalOp(slot, name, op), width) => {
             let next = address + width;
             Attempt::of(quick_assign(run, context, steps, frame, slot, name, op, next))
+        }
+        (Op::StoreLocal(slot), width) => {
+            Attempt::of(quick_store(run, context, steps, frame, slot, address + width))
+        }
+        (Op::IterNext(target), width) => {
+            Attempt::of(quick_next(run, context, steps, frame, target, address + width))
         }
         (Op::Jump(target), width) => {
             let done = quick_jump(run, context, steps, frame, target, address + width);

@@ -10,6 +10,7 @@ ghost use Rattle.grain_value.specs.Operands.{arguments};
 ghost use Rattle.grain_ops.specs.Agreement.{Agrees, IsGiven};
 ghost use Rattle.grain_means.specs.Rules.{jump_if, operated, flat_all};
 ghost use Rattle.grain_frame.specs.Abstraction.{frame_in, tries_in, Implements, Performs, Ready, Runs, setup_of, moment};
+ghost use Rattle.grain_frame.specs.Looping.{PerformsLoop};
 ghost use Rattle.grain_vm.specs.Attempts.{Unchanged, OnTrue, OnFalse};
 ghost use Rattle.grain_vm.specs.Following.{PerformsOn};
 ghost use Rattle.grain_program.specs.declared.code.instruction_set.Op.TheVariants as op;
@@ -147,6 +148,82 @@ pub(crate) fn quick_assign<H: Host, L: Ledger>(
         }
         None => false,
     }
+}
+
+// `store_local` of an integer into an entry that is an integer, whether it could be written or only
+// read.
+#[inline(always)]
+#[tactic(auto, using(grain_means::specs::lemmas::Scopes::length_set_held))]
+pub(crate) fn quick_store<H: Host, L: Ledger>(
+    run: &mut Run<H>,
+    context: Context<'_>,
+    steps: &mut Steps<L>,
+    frame: &mut Activation,
+    slot: u16,
+    next: usize,
+) -> bool
+    requires ready { Ready frame.old run.old (op.StoreLocal slot) next }
+    ensures performs { OnTrue result ((host : H) →
+        Performs (setup_of H.law context.entry) (moment frame.old run.old steps.old host)
+        (op.StoreLocal slot) next (Ok Progress.Continues) (moment frame.new run.new steps.new host)) }
+    ensures undone { OnFalse result
+        (Unchanged frame.old run.old steps.old frame.new run.new steps.new) }
+{
+    // Only the contract names it.
+    let _context = context;
+    let index = run.slot_index(frame, slot);
+    let Some(held) = run.scope.get(index) else {
+        return false;
+    };
+    match (&held.value, &run.stacks.top().value) {
+        (Dynamic::Int(_), Dynamic::Int(integer)) => {
+            let integer = *integer;
+            run.scope.set_int(index, integer);
+            run.stacks.drop_top();
+            steps.mark();
+            frame.address = next;
+            steps.mark();
+            true
+        }
+        (_, _) => false,
+    }
+}
+
+// `iter_next` over a range, of which another integer comes after the next one.
+#[inline(always)]
+pub(crate) fn quick_next<H: Host, L: Ledger>(
+    run: &mut Run<H>,
+    context: Context<'_>,
+    steps: &mut Steps<L>,
+    frame: &mut Activation,
+    target: u32,
+    next: usize,
+) -> bool
+    requires ready { Ready frame.old run.old (op.IterNext target) next }
+    requires there { 0 < length run.old.stacks.cursors }
+    ensures performs { OnTrue result ((host : H) →
+        PerformsLoop (setup_of H.law context.entry) (moment frame.old run.old steps.old host)
+        (op.IterNext target) next (Ok Progress.Continues)
+        (moment frame.new run.new steps.new host)) }
+    ensures undone { OnFalse result
+        (Unchanged frame.old run.old steps.old frame.new run.new steps.new) }
+{
+    // Only the contract names them.
+    let _context = context;
+    let _target = target;
+    let Some(cursor) = run.stacks.innermost_cursor() else {
+        unreachable!();
+    };
+    let Some(first) = cursor.next_integer() else {
+        return false;
+    };
+    if !run.stacks.push_int(first) {
+        return false;
+    }
+    run.stacks.cursor_mut().pass(first);
+    frame.address = next;
+    steps.mark();
+    true
 }
 
 // `call_op` of two integers, and, if it gives a truth value, the branch after it.

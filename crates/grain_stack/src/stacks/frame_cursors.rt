@@ -43,6 +43,7 @@ impl Stacks {
     }
 
     /// The frame's innermost cursor, if it has one.
+    #[inline(always)]
     pub fn innermost_cursor(&self) -> Option<&Cursor>
         ensures { option_copied result ≡ first_of self.now.cursors }
     {
@@ -51,6 +52,7 @@ impl Stacks {
     }
 
     /// The frame's innermost cursor, to be changed.
+    #[inline(always)]
     pub fn cursor_mut(&mut self) -> &mut Cursor
         requires there { 0 < length self.old.cursors }
         ensures* writes_back { sem 𝓛 (LendsCursor self.entry result) }

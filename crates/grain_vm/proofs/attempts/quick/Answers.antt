@@ -3,8 +3,8 @@ use Rattle.std.proofs.Common.{◌≡◌, ◌+◌, ◌-◌, ℕ, length, refl, in
 use Rattle.grain_program.specs.declared.code.instruction_set.Op.TheVariants as op
 use Rattle.grain_program.specs.TypedAt.{IsTypedAt}
 use Rattle.grain_frame.specs.Abstraction.{tries_in}
-use Rattle.grain_frame.specs.lemmas.Arms.{stepped, stands, leads_typed}
-use Rattle.grain_vm.proofs.Tried.{tried_out, tried_or, tried_on}
+use Rattle.grain_frame.specs.lemmas.Arms.{here, stepped, stands, leads_typed}
+use Rattle.grain_vm.proofs.Tried.{tried_out, tried_or, tried_on, tried_loop}
 use Rattle.grain_vm.proofs.attempts.quick.Goals as goal
 
 pub fetch-requires : goal.fetch-requires
@@ -75,6 +75,41 @@ returns-in-AssignLocalOp-default g c =
     c.quick_assign.new.run c.quick_assign.new.steps c.quick_assign.result
     c.of-in-AssignLocalOp-default.result c.of-in-AssignLocalOp-default.ensures
     c.quick_assign.ensures.performs c.quick_assign.ensures.undone (
+      (λ name count e. cc),
+      (λ count e.
+          cc),
+    )
+
+pub returns-in-StoreLocal-default : goal.returns-in-StoreLocal-default
+returns-in-StoreLocal-default g c =
+    tried_out g.H.Host.law c.args.context.program.now c.args.context.engine.now c.args.frame.now
+    c.args.run.now c.fetch.result.0 (op.StoreLocal c.in-StoreLocal-default.slot) c.fetch.result.1
+    c.height-depth.result c.in-StoreLocal-default.is-0 c.height-depth.ensures c.requires.runs
+    c.fetch.ensures.verified c.fetch.ensures.read refl refl c.args.steps.now c.quick_store.new.frame
+    c.quick_store.new.run c.quick_store.new.steps c.quick_store.result
+    c.of-in-StoreLocal-default.result c.of-in-StoreLocal-default.ensures
+    c.quick_store.ensures.performs c.quick_store.ensures.undone (
+      (λ name count e. cc),
+      (λ count e.
+          cc),
+    )
+
+pub quick_next-requires-clause-there : goal.quick_next-requires-clause-there
+quick_next-requires-clause-there g c =
+    (here g.H.Host.law c.args.context.program.now c.args.context.engine.now c.args.frame.now
+    c.args.run.now c.fetch.result.0 (op.IterNext c.in-IterNext-default.target) c.fetch.result.1
+    c.height-depth.result c.in-IterNext-default.is-0 c.height-depth.ensures c.requires.runs
+    c.fetch.ensures.verified).cursor
+
+pub returns-in-IterNext-default : goal.returns-in-IterNext-default
+returns-in-IterNext-default g c =
+    tried_loop g.H.Host.law c.args.context.program.now c.args.context.engine.now c.args.frame.now
+    c.args.run.now c.fetch.result.0 (op.IterNext c.in-IterNext-default.target) c.fetch.result.1
+    c.height-depth.result c.in-IterNext-default.is-0 c.height-depth.ensures c.requires.runs
+    c.fetch.ensures.verified c.fetch.ensures.read c.args.steps.now c.quick_next.new.frame
+    c.quick_next.new.run c.quick_next.new.steps c.quick_next.result
+    c.of-in-IterNext-default.result c.of-in-IterNext-default.ensures
+    c.quick_next.ensures.performs c.quick_next.ensures.undone (
       (λ name count e. cc),
       (λ count e.
           cc),
