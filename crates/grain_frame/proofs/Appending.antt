@@ -1,5 +1,5 @@
 -- What is appended to a text: where it stops if memory is out, and what comes before it.
-use Rattle.std.proofs.Common.{◌≡◌, ◌∙◌, ◌<◌, ◌≤◌, ◌+◌, ◌++◌, ◌∷◌, ℕ, List, [], Option, Some, None, Bool, true, false, if◌then◌else◌, Result, Ok, Err, length, take, zero, suc, ◌-◌, refl, sym, ap, arith}
+use Rattle.std.proofs.Common.{◌≡◌, ◌∙◌, ◌<◌, ◌≤◌, ◌+◌, ◌++◌, ◌∷◌, ℕ, List, [], Option, Some, None, Bool, true, false, if◌then◌else◌, Result, Ok, Err, length, drop, take, zero, suc, ◌-◌, refl, sym, ap, arith}
 use Rattle.std.specs.Prelude.{codes, is_none}
 use Rattle.std.proofs.lemmas.List.{length-take-le, take_all}
 use Rattle.grain_value.specs.Cells.{flat}
@@ -137,11 +137,18 @@ type_then {H = H} law p engine f s n host t next cut k f' s' n' {r} is counted i
         before = did.before;
       }
 
+-- one more, less one
+less_one : (n : ℕ) → suc n - 1 ≡ n
+less_one n = omega arith
+
 -- the last operand alone
 pub last_alone : (hs : List Held) → 0 < length hs → arguments 1 hs ≡ top hs ∷ []
 last_alone [] some = absurd (omega (arith, some))
 last_alone (h ∷ []) some = refl
-last_alone (h ∷ g ∷ hs) some = last_alone (g ∷ hs) (omega arith)
+last_alone (h ∷ g ∷ hs) some =
+    ap (λ (n : ℕ). drop n (h ∷ g ∷ hs)) (less_one (suc (length hs)))
+    ∙ ap (λ (n : ℕ). drop n (g ∷ hs)) (sym (less_one (length hs)))
+    ∙ last_alone (g ∷ hs) (omega arith)
 
 -- as it is read
 pub alone_read : (cells : List Cell) (hs : List Held) (v : Dynamic) → 0 < length hs →
@@ -206,9 +213,12 @@ module _ {S : Type 0} (m : Setup S) (f : Frame) (w : World S) (next : ℕ) where
       segment_read m None v h next f w
       ≡ native m to_string None (h ∷ []) f w
       (λ r w1. answer_appended m (flat w1.cells r) t next f w1) (showing_failed m t next f)
-  shows v h t n found typed = rw (found, typed) refl
+  shows v h t n found typed =
+      ap (λ (o : Option Native). showing m o v h next f w) found
+      ∙ ap (λ (s : List ℕ). native m to_string None (h ∷ []) f w
+      (λ r w1. answer_appended m (flat w1.cells r) s next f w1) (showing_failed m s next f)) (sym typed)
 
 -- a native that is there
 pub native_there : (o : Option Native) → is_none o ≡ false → (n : Native) × (o ≡ Some n)
-native_there None no = absurd cc
-native_there (Some n) no = (n, refl)
+native_there None some = absurd cc
+native_there (Some n) some = (n, refl)

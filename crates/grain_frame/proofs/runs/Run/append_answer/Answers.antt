@@ -49,18 +49,3 @@ returns-in_err-text g c =
           (world (abstraction s c.args.steps.now host) u) halts (flat s.cells c.args.value)
           c.args.type_name c.args.next);
     }
-
-pub returns-in_err-value : goal.returns-in_err-read_of
-returns-in_err-value g c =
-    let p = c.args.context.program.now in
-    let engine = c.args.context.engine.now in
-    let s = c.args.self.now in
-    let f = c.args.frame.now in
-    let out : is_out c.from_residual.result ≡ true = search rules in
-    record {
-      implements = λ host. wants_memory g.H.Host.law p engine f s c.args.steps.now host
-          c.from_residual.result out c.requires.begins.inside (λ stop u place halts.
-          answer_stops (stopped (setup g.H.Host.law p engine) stop) (frame_in f s place)
-          (world (abstraction s c.args.steps.now host) u) halts (flat s.cells c.args.value)
-          c.args.type_name c.args.next);
-    }

@@ -139,10 +139,10 @@ returns g c =
     let kept : c.keep_total.new.self ≡ record s { stacks = record s.stacks { totals = own } } =
     rw more at keeps in
     record {
-      implements = λ host. implements_totalled g.H.Host.law p engine f c.go_on.new.frame s
-          c.go_on.new.self c.args.steps.now c.go_on.new.steps
+      implements = λ host. implements_totalled g.H.Host.law p engine f c.go_on-2.new.frame s
+          c.go_on-2.new.self c.args.steps.now c.go_on-2.new.steps
           (record s.stacks { totals = own }) ops own host host refl
-          (rw kept at (c.go_on.ensures.implements p engine host))
+          (rw kept at (c.go_on-2.ensures.implements p engine host))
           (λ stop u place. checks_one (stopped (setup g.H.Host.law p engine) stop) f s place
           (world (abstraction s c.args.steps.now host) u) one c.args.index c.args.next limited t
           there v.0 v.1 within) (λ b i. i) (omega arith) (omega arith);

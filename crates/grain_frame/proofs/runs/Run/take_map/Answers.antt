@@ -55,7 +55,7 @@ pairs-preserved g c =
     let first : items ≡ more ++ k ∷ [] = search rules in
     let second : more ≡ now ++ h ∷ [] = search rules in
     let key : flat cells k.value ≡ Some (dynamic.Text c.in-Text.key) = search rules in
-    let value : flat cells h.value ≡ Some c.in_ok-value.value = c.in_ok-value.ensures in
+    let value : flat cells h.value ≡ Some c.in_ok-value.value = search rules in
     let grown : c.put_pair.new.map ≡ put_entry c.in-Text.key (tree c.in_ok-value.value) c.pairs.map =
     c.in_ok-put_pair.ensures in
     record {
