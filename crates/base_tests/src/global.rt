@@ -65,7 +65,7 @@ const SIZES: [SizeRow; 18] = [
     ((1, 1, 1), "7", ""),
 ];
 
-/// An engine whose values may have so many bytes of texts, elements and entries.
+/// An engine whose values may have `bytes` bytes of texts, elements and entries.
 fn sized_engine(alloc: Global, sizes: (usize, usize, usize)) -> Engine {
     let limits = Limits {
         text: sizes.0,

@@ -11,7 +11,7 @@ use grain_value::{Array, Dynamic, FnPtr, Held, Kinds, Native, Text};
 use std::alloc::Global;
 use std::process::Abort;
 
-/// The call's value as a listing has it, an exit's value behind the word, the name and the text of a
+/// The call's value as a listing has it, an exit's value after the word, the name and the text of a
 /// fault, or what is asked.
 fn answered(rt: &impl Abort, alloc: Global, answer: HostAnswer) -> Text {
     match answer {

@@ -48,7 +48,7 @@ pub unknown : (words : List (List ℕ)) (input : Option (List ℕ)) → is_run w
     self_number words ≡ None → Answers words input 2 usage_text
 unknown words input run none = no_command (rw (run, none) refl)
 
--- `self` and a number: the listing of so many functions
+-- `self` and a number: the listing of that many functions
 pub of_self : (words : List (List ℕ)) (input : Option (List ℕ)) (n : ℕ)
     (said : Result ListingView BadLine) (status : ℕ) (text : List ℕ) → is_run words ≡ false →
     self_number words ≡ Some n →

@@ -1,7 +1,7 @@
 -- Texts that are put one after the other.
 use Rattle.std.proofs.Common.{◌≡◌, ◌++◌, ◌∙◌, ℕ, List, ap, append_assoc}
 
--- three texts behind what was there
+-- three texts after what was there
 pub three_put : (begun one two last a b d : List ℕ) → one ≡ begun ++ a → two ≡ one ++ b →
     last ≡ two ++ d → last ≡ begun ++ (a ++ (b ++ d))
 three_put begun one two last a b d first second third =

@@ -14,7 +14,7 @@ abbrev pub for_each : ℕ → (ℕ → List ℕ) → List ℕ
 for_each zero text = []
 for_each (suc n) text = for_each n text ++ text n
 
--- a line with a number in it, between a lead and what stands behind
+-- a line with a number in it, between a lead and what stands after
 abbrev pub number_line : List ℕ → List ℕ → ℕ → List ℕ
 number_line lead behind n = line (lead ++ decimal n ++ behind)
 
@@ -22,8 +22,8 @@ number_line lead behind n = line (lead ++ decimal n ++ behind)
 abbrev pub number_lines : List ℕ → ℕ → List ℕ → ℕ → List ℕ
 number_lines lead first behind n = for_each n (λ k. number_line lead behind (first + k))
 
--- the function of the number k: its name stands behind those of its parameter and its operator, and its
--- constant behind the first one
+-- the function of the number k: its name stands after those of its parameter and its operator, and its
+-- constant after the first one
 abbrev pub function_block : ℕ → List ℕ
 function_block k = number_line (codes "fn ") (codes " 2 0") (2 + k) ++
     (line (codes "load_local 0") ++ (number_line (codes "load_const ") [] (1 + k) ++

@@ -113,7 +113,7 @@ fn answer_and_write<S: Source, K: Sink, L: Ledger>(
 
 /// Does what the words say. For `run` it reads a listing from the source, verifies it, runs it, and
 /// writes the report of its end to the sink. At most 16,777,217 bytes are read. For `self` and a number
-/// from 1 to 10000 it does the same with a listing that it makes, of so many functions, and reads
+/// from 1 to 10000 it does the same with a listing that it makes, of that many functions, and reads
 /// nothing. The status, and what is written:
 /// - 0, the run ended in a value: its report, or for `self` the value and how many operations there
 ///   were;

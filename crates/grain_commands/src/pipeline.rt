@@ -114,7 +114,7 @@ pub fn run_listing<L: Ledger>(
     run_bytes(alloc, bytes, false, steps)
 }
 
-/// The same with the listing of so many functions. Of a value it tells how many operations there were.
+/// The same with the listing of that many functions. Of a value it tells how many operations there were.
 pub fn run_self<L: Ledger>(
     alloc: Global,
     count: u64,

@@ -12,7 +12,7 @@ use std::alloc::Global;
 /// How many functions the listing of `self` has at most.
 const MOST_FUNCTIONS: u64 = 10_000;
 
-/// The number behind the word `self`, if the words are these two.
+/// The number after the word `self`, if the words are these two.
 pub fn self_number(alloc: Global, words: &[String]) -> Result<Option<u64>, OutOfMemory>
     ensures number { IfOk result (λ o. o ≡ self_number (map string_bytes words.now)) }
     ensures small { IfOk result (λ o. IfSome o (λ n. n ≤ 10000)) }
@@ -43,7 +43,7 @@ fn number_of(alloc: Global, word: &str) -> Result<Option<u64>, OutOfMemory>
     Ok(number_in(chars.as_slice()))
 }
 
-// A line with a number in it, between a lead and what stands behind.
+// A line with a number in it, between a lead and what stands after.
 fn push_number_line(
     out: &mut Text,
     lead: &str,
@@ -121,7 +121,7 @@ fn push_main(out: &mut Text, count: u64) -> Result<(), OutOfMemory>
     Ok(())
 }
 
-/// The listing of so many functions.
+/// The listing of that many functions.
 pub fn self_listing(alloc: Global, count: u64) -> Result<Text, OutOfMemory>
     requires small { count ≤ 10000 }
     ensures { IfOk result (λ t. t ≡ self_listing count) }

@@ -38,7 +38,7 @@ pub blank_before_next : (i : ℕ) → codes " " ≡ lead_from [] (i + 1)
 blank_before_next i =
     let next : suc i ≡ i + 1 = omega arith in ap (λ n. lead_from [] n) next
 
--- a token is written behind the ones before it
+-- a token is written after the ones before it
 pub token_written : {W : Type 0} (took : W → List ℕ → W → Type 0) (f g h : Formatter W)
     (ts : List Tree) (i : ℕ) (lead : List ℕ) (v : Dynamic) → slice_get ts i ≡ Some (tree v) →
     lead ≡ lead_from [] i → HasWritten took f (spaced [] (take i ts)) g →

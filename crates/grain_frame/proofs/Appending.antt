@@ -1,5 +1,5 @@
 -- What is appended to a text: where it stops if memory is out, and what comes before it.
-use Rattle.std.proofs.Common.{◌≡◌, ◌∙◌, ◌<◌, ◌≤◌, ◌+◌, ◌++◌, ◌∷◌, ℕ, List, [], Option, Some, None, Bool, true, false, if◌then◌else◌, Result, Ok, Err, length, drop, take, zero, suc, ◌-◌, refl, sym, ap, arith}
+use Rattle.std.proofs.Common.{◌≡◌, ◌∙◌, ◌<◌, ◌≤◌, ◌+◌, ◌++◌, ◌∷◌, ℕ, List, [], Option, Some, None, Bool, true, false, if◌then◌else◌, Result, length, drop, take, zero, suc, ◌-◌, refl, sym, ap, arith}
 use Rattle.std.specs.Prelude.{codes, is_none}
 use Rattle.std.proofs.lemmas.List.{length-take-le, take_all}
 use Rattle.grain_value.specs.Cells.{flat}
@@ -14,13 +14,13 @@ use Rattle.grain_value.specs.declared.values.Dynamic.{Dynamic}
 use Rattle.grain_value.specs.declared.values.Dynamic.TheVariants as dynamic
 use Rattle.grain_value.specs.declared.values.Held.{Held}
 use Rattle.grain_fault.specs.Classes.{catchable}
-use Rattle.grain_fault.specs.Problems.{Problem, NoMemory, Plain, DataTooLarge}
+use Rattle.grain_fault.specs.Problems.{NoMemory, Plain, DataTooLarge}
 use Rattle.grain_program.specs.View.{View}
 use Rattle.grain_host.specs.Law.{Law, native_of}
 use Rattle.grain_global.specs.declared.engines.Engine.{Engine}
 use Rattle.grain_global.specs.StepsView.{StepsView}
 use Rattle.grain_stack.specs.Views.{StacksView}
-use Rattle.grain_means.specs.Worlds.{Act, Frame, Setup, World, is_stop}
+use Rattle.grain_means.specs.Worlds.{Frame, Setup, World, is_stop}
 use Rattle.grain_means.specs.Rules.{answer_appended, appended, data_race, flat_all, flat_or_race, leave_by_fault, native, not_a_buffer, operand_under, position, pushed, put_behind, raised, segment_read, showing, showing_failed, to_string, type_appended}
 use Rattle.grain_means.specs.Means.{setup}
 use Rattle.grain_means.specs.lemmas.Stretches.{then_exactly}
@@ -33,7 +33,7 @@ use Rattle.grain_frame.proofs.Serving.{kept_on, later_lands}
 
 module _ {S : Type 0} (m : Setup S) (f : Frame) (w : World S)
     (halts : is_stop m.stop w.passed ≡ true) where
-  -- a text goes behind the buffer
+  -- a text goes after the buffer
   behind_stops : (o : Option (List ℕ)) (v : Dynamic) (s : List ℕ) (next : ℕ) →
       put_behind m o v s next f w ≡ leave_by_fault m f NoMemory w
   behind_stops None v s next = rw halts refl
@@ -176,7 +176,7 @@ below_twice hs many =
     ap (λ (n : ℕ). take n (below hs)) short
     ∙ take_shorter (length hs - 2) (length hs - 1) hs (omega arith)
 
--- what the rules say of a text that goes behind the buffer, and of a segment that is shown
+-- what the rules say of a text that goes after the buffer, and of a segment that is shown
 module _ {S : Type 0} (m : Setup S) (f : Frame) (w : World S) (next : ℕ) where
   -- the buffer is a cell that is lent
   pub appends_lent : (s : List ℕ) → flat w.cells (operand_under 1 f.operands).value ≡ None →

@@ -1,7 +1,7 @@
 -- Literals that are made and measured: what stays of the totals, and what the rules then say.
-use Rattle.std.proofs.Common.{◌≡◌, ◌∙◌, ◌≤◌, ◌+◌, ◌-◌, ◌++◌, ◌∷◌, ◌==◌, ℕ, List, [], Option, Some, None, Bool, true, false, if◌then◌else◌, option_map, Result, Ok, Err, length, refl, sym, subst, ap, arith}
+use Rattle.std.proofs.Common.{◌≡◌, ◌∙◌, ◌≤◌, ◌+◌, ◌-◌, ◌∷◌, ◌==◌, ℕ, List, [], Option, Some, None, Bool, true, false, if◌then◌else◌, option_map, Result, Ok, Err, length, refl, sym, ap, arith}
 use Rattle.grain_value.specs.Cells.{flat}
-use Rattle.grain_value.specs.Operands.{read_write, top}
+use Rattle.grain_value.specs.Operands.{top}
 use Rattle.grain_value.specs.Sizes.{Sizes, counted, data_sizes, limits_sizes, plain_sizes, plus, too_large}
 use Rattle.grain_value.specs.declared.stores.Cell.{Cell}
 use Rattle.grain_value.specs.declared.values.Limits.{Limits}
@@ -25,7 +25,7 @@ use Rattle.grain_means.specs.Rules.{check_size, data_race, innermost_total, leav
 use Rattle.grain_means.specs.Means.{setup}
 use Rattle.grain_means.specs.Simulation.{Computation, Environment, stopped, world}
 use Rattle.grain_means.specs.lemmas.Stretches.{exactly}
-use Rattle.grain_frame.specs.Abstraction.{Implements, KeepsFrame, abstraction, frame_in, is_out, moment, total_in, totals_in}
+use Rattle.grain_frame.specs.Abstraction.{Implements, abstraction, frame_in, is_out, moment, total_in, totals_in}
 use Rattle.grain_frame.specs.Literals.{around, ended, opened}
 use Rattle.grain_frame.specs.declared.activations.Activation.{Activation}
 use Rattle.grain_frame.specs.declared.runs.Progress.{Progress}

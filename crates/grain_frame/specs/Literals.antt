@@ -1,5 +1,5 @@
 -- Literals and their totals, as the code has them.
-use Rattle.std.specs.Prelude.{◌≡◌, ◌==◌, ℕ, List, [], ◌∷◌, Option, Some, None, if◌then◌else◌, slice_get, option_map}
+use Rattle.std.specs.Prelude.{◌≡◌, ◌==◌, ℕ, List, [], ◌∷◌, Option, Some, None, if◌then◌else◌, slice_get}
 use Rattle.grain_value.specs.Cells.{flat}
 use Rattle.grain_value.specs.Maps.{Entries}
 use Rattle.grain_value.specs.declared.stores.Cell.{Cell}
@@ -20,7 +20,7 @@ around (t ∷ ts) = ts
 abbrev pub opened : ℕ → List Total → List Total
 opened index ts = if index == 0 then empty_total ∷ ts else ts
 
--- the totals once a literal of so many elements is made
+-- the totals once a literal of that many elements is made
 abbrev pub ended : ℕ → List Total → List Total
 ended count ts = if count == 0 then ts else around ts
 

@@ -168,7 +168,7 @@ impl<H: Host> Run<H> {
         }
     }
 
-    // A text goes behind the buffer, which is the operand under the segment.
+    // A text goes after the buffer, which is the operand under the segment.
     pub(crate) fn append<L: Ledger>(
         &mut self,
         context: Context<'_>,
@@ -201,7 +201,7 @@ impl<H: Host> Run<H> {
         Ok(self.push_on(steps, frame, Dynamic::Text(buffer), next))
     }
 
-    // A native has shown the segment: its text goes behind the buffer, or the name of the type of any
+    // A native has shown the segment: its text goes after the buffer, or the name of the type of any
     // other value. That the value is a lent cell is passed over.
     pub(crate) fn append_answer<L: Ledger>(
         &mut self,
@@ -251,7 +251,7 @@ impl<H: Host> Run<H> {
     }
 
     // A fault is passed over, after a mark and without its trace, and the name of the segment's type goes
-    // behind the buffer.
+    // after the buffer.
     fn append_type<L: Ledger>(
         &mut self,
         context: Context<'_>,

@@ -67,7 +67,7 @@ fn put_pair(map: &mut Map, key: Text, value: Dynamic) -> Result<(), OutOfMemory>
 }
 
 impl<H: Host> Run<H> {
-    // A literal of so many elements is over: if it has some, its total goes, if there is one.
+    // A literal of that many elements is over: if it has some, its total goes, if there is one.
     fn end_literal(&mut self, count: usize)
         ensures { self.new ≡ record self.old {
           stacks = record self.old.stacks { totals = ended count self.old.stacks.totals };
@@ -78,7 +78,7 @@ impl<H: Host> Run<H> {
         }
     }
 
-    // A literal of so many elements is made, and is the last operand.
+    // A literal of that many elements is made, and is the last operand.
     fn literal_made<L: Ledger>(
         &mut self,
         steps: &mut Steps<L>,

@@ -26,7 +26,7 @@ pub enum Rest {
     Assign(Assignment),
     /// The value of the host's operator is assigned.
     Operate(Assignment),
-    /// The value is shown as a text behind a buffer, or the name of the segment's type is, and the frame
+    /// The value is shown as a text after a buffer, or the name of the segment's type is, and the frame
     /// goes on at `next`.
     Show { type_name: Text, next: usize },
 }

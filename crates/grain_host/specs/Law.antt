@@ -22,7 +22,7 @@ pub data Reply : Type 0 where
   -- the call failed
   Failed : Problem → Reply
   -- The host asks for a call of a function of the script: a token, by which it is resumed or told to
-  -- forget, the pointer to the function, and the arguments behind the pointer's own values.
+  -- forget, the pointer to the function, and the arguments after the pointer's own values.
   Ask : ℕ → FnPtr → List Tree → Reply
 
 -- what came of a call that the host asked for

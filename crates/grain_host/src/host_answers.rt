@@ -27,7 +27,7 @@ pub enum HostAnswer {
         token: u64,
         /// The pointer to the function.
         pointer: FnPtr,
-        /// The arguments, which stand behind the pointer's own values.
+        /// The arguments, which stand after the pointer's own values.
         arguments: Array,
     },
     /// There was no memory. The host and the receiver are as they were.

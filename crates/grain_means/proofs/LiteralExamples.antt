@@ -1,6 +1,6 @@
 -- Literals and texts of segments that compute: what an instruction gives, which total is left, and which
 -- fault is raised.
-use Rattle.std.specs.Prelude.{◌≡◌, ℕ, pos, false, List, [], ◌∷◌, Option, Some, None, refl, codes}
+use Rattle.std.specs.Prelude.{◌≡◌, ℕ, pos, List, [], ◌∷◌, Option, Some, None, refl, codes}
 use Rattle.grain_value.specs.Cells.{idle, lent}
 use Rattle.grain_value.specs.Operands.{read_write}
 use Rattle.grain_value.specs.Sizes.{one_element, one_value}
@@ -212,7 +212,7 @@ module _ {S : Type 0} (law : Law S) (e : Engine) (program : View) (host : S) whe
   pub uncounted_frame : frame_in uncounted ≡ on 9 (held (dynamic.Cell 0) ∷ []) (total 0 0 0 ∷ [])
   uncounted_frame = refl
 
-  -- a segment goes behind the buffer, which may be a shared variable
+  -- a segment goes after the buffer, which may be a shared variable
   abbrev begun : Act S
   begun = interpolate_start (under few) 9 (frame (int 1 ∷ []) []) (world [])
 

@@ -68,7 +68,7 @@ as_many_cursors p operands cursors h hs covered = omega (
   covered.many,
 )
 
--- of a list the outermost n are n, where there are so many
+-- of a list the outermost n are n, where there are n of them
 pub length_outermost : {A : Type 0} (n : ℕ) (xs : List A) → n ≤ length xs →
     length (outermost n xs) ≡ n
 length_outermost n xs enough = omega (arith, length-drop (length xs - n) xs, enough)

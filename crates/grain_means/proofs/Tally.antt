@@ -33,11 +33,9 @@ pub mod Chains
 pub mod Methods
 pub mod Returns
 pub mod Receivers
-use Rattle.std.proofs.Common.{◌≡◌, ℕ, ◌+◌, List, [], ◌∷◌, ◌++◌, Option, Some, None, true, false, refl, inl, inr, arith, length}
+use Rattle.std.proofs.Common.{◌≡◌, ℕ, ◌+◌, [], ◌∷◌, ◌++◌, Option, Some, None, true, false, refl, inl, inr, arith, length}
 use Rattle.std.specs.Prelude.{is_some}
-use Rattle.grain_value.specs.declared.values.Dynamic.{Dynamic}
 use Rattle.grain_value.specs.declared.values.Dynamic.TheVariants as dynamic
-use Rattle.grain_value.specs.declared.values.Held.{Held}
 use Rattle.grain_value.specs.Looking.{is_unit, cell_of}
 use Rattle.grain_value.specs.Operands.{top, below, under, arguments, read_write}
 use Rattle.grain_fault.specs.Problems.{Plain}
@@ -50,7 +48,7 @@ use Rattle.grain_program.specs.View.{chain_of, name_of, const_of, assign_op_of}
 use Rattle.grain_value.specs.Cells.{flat, content}
 use Rattle.grain_program.specs.Lookups.{function_of, function_by_text}
 use Rattle.grain_means.specs.Worlds.{End, Came, Setup, Frame, InFrame}
-use Rattle.grain_means.specs.Rules.{stepped, Nowhere, ToSlot, ToThis, trees_in, native, function_found, held_at, or_return, operated, charged, instr, start_instruction, next, position, flat_all, spread, name_at, curried, pointer_called, function_by_name}
+use Rattle.grain_means.specs.Rules.{Nowhere, ToSlot, ToThis, trees_in, native, function_found, held_at, or_return, operated, charged, instr, start_instruction, next, position, flat_all, spread, name_at, curried, pointer_called, function_by_name}
 use Rattle.grain_means.specs.lemmas.Branches.{of_two}
 use Rattle.grain_means.proofs.Lengths.{length_under, length_pushed, length_rotated, spread_length, spread_under}
 use Rattle.grain_means.proofs.Standing.{tries_outer, fits_found}

@@ -103,7 +103,7 @@ pub(crate) fn compared(token: Token, ordering: Ordering) -> OpAnswer
     }
 }
 
-// Whether a text with more behind it is over a limit of bytes. A limit of 0 is none.
+// Whether a text with more after it is over a limit of bytes. A limit of 0 is none.
 fn is_over(limit: usize, length: usize, more: usize) -> bool
     ensures { result ≡ is_over limit (length + more) }
 {

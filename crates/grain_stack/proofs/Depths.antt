@@ -177,7 +177,7 @@ module _ {T : Type 0} where
 
   -- ---- how many a frame has
 
-  -- so many of a frame's, the newest, were seen, and those that were not are in order
+  -- n of a frame's, the newest, were seen, and those that were not are in order
   abbrev pub Seen : ℕ → List (FrameEntry T) → ℕ → Type 0
   Seen d es n =
       (length (entries_at d es) ≡ n + length (entries_at d (drop n es))) × IsOrdered d (drop n es)

@@ -33,7 +33,7 @@ module _ {A : Type 0} where
   first_at (y ∷ xs) (suc n) zero x is em = absurd (omega (arith, em))
   first_at (y ∷ xs) (suc n) (suc m) x is em = first_at xs n m x is (omega (arith, em))
 
--- a value was taken, and those behind it stay
+-- a value was taken, and those after it stay
 pub behind_taken : (ts : List Tree) (n m : ℕ) (t : Tree) → m ≡ n + 1 →
     drop m (slice_set ts n t) ≡ drop m ts
 behind_taken [] n m t em = refl
@@ -65,7 +65,7 @@ none_begins text n apart = by_place (nat_le n (length text)) refl where
       drop_all n text (omega (arith, leb-false n (length text) more)) in
       rw past (no_characters [] (omega arith))
 
--- the character that begins at a byte, and those behind it
+-- the character that begins at a byte, and those after it
 pub character_at : (text rest : List ℕ) (n m c : ℕ) → IsUtf8 (drop n text) →
     drop n text ≡ encode_utf8 c ++ rest → m ≡ n + len_utf8 c →
     characters_in (drop n text) ≡ character c ∷ characters_in (drop m text)
@@ -106,13 +106,13 @@ range_more : (from to : ℤ) (inclusive : Bool) → from <ℤ to →
 range_more from to false lt = one_more from to lt
 range_more from to true lt = one_more from (to +ℤ pos 1) (omega (arith, ints))
 
--- an integer below the end, and those behind it
+-- an integer below the end, and those after it
 pub integer_below : (from to : ℤ) (inclusive : Bool) → from <ℤ to →
     integers_in from to inclusive ≡ integer from ∷ integers_in (from +ℤ pos 1) to inclusive
 integer_below from to inclusive lt =
     ap (integers_from from) (range_more from to inclusive lt)
 
--- the end of an inclusive range, behind which there is nothing
+-- the end of an inclusive range, after which there is nothing
 pub integer_last : (z : ℤ) → integers_in z z true ≡ integer z ∷ integers_in z z false
 integer_last z =
     let is : (z +ℤ pos 1) -ℤ z ≡ pos 1 = omega (arith, ints) in

@@ -32,7 +32,7 @@ cut_own n k m xs em le =
     let s : m ≡ n + (length (drop n xs) - k) = omega (arith, em, length-drop n xs) in
     rw s (drop-take n (length (drop n xs) - k) xs)
 
--- a write behind the front of a list
+-- a write after the front of a list
 pub take_set : (b i : ℕ) (xs : List Held) (h : Held) → b ≤ i → take b (slice_set xs i h) ≡ take b xs
 take_set zero i xs h le = refl
 take_set (suc b) zero xs h le = absurd (omega (arith, le))

@@ -206,7 +206,7 @@ below_slots slots b xs own (f ∷ fs) le n some room =
     (frames_on (take f.bottom (take b xs)) own fs) refl in
     omega (arith, free, n.0, n.1, length-drop f.bottom (take b xs), length_front b xs le)
 
--- where the frame around the innermost one has room, a slot is there behind its operands
+-- where the frame around the innermost one has room, a slot is there after its operands
 pub room_below : (s : Inside) → IsSound s →
     0 < length (frames_on (take s.bottom s.slots.operands) (belongings s) (floors s)) →
     ((first : StackFrame) (others : List StackFrame) → frames_on (take s.bottom s.slots.operands)

@@ -30,7 +30,7 @@ regained_next zero (suc (suc k)) e es (h ∷ hs) v ek ev = absurd (omega (arith,
 regained_next (suc n) (suc k) e es (h ∷ hs) v ek ev =
     ap (λ (l : List Held). h ∷ l) (regained_next n k e es hs v (omega (arith, ek)) ev)
 
--- one entry more has the value of the operand behind those that would regain theirs
+-- one entry more has the value of the operand after those that would regain theirs
 pub regained_more : (n k : ℕ) (e : Entry) (es : List Entry) (hs : List Held) (v : Dynamic) →
     k ≡ n + length es → e.held.value ≡ (operand_at k hs).value → k < length hs →
     regained n (es ++ e ∷ []) (slice_set hs k (record (operand_at k hs) { value = v }))
@@ -77,7 +77,7 @@ no_entry n [] is = omega arith
 no_entry zero (e ∷ es) is = absurd cc
 no_entry (suc n) (e ∷ es) is = omega (arith, no_entry n es is)
 
--- the entry at an index stands before those behind it
+-- the entry at an index stands before those after it
 entry_first : (n k : ℕ) (es : List Entry) (h : Held) → k ≡ n + 1 →
     Some h ≡ option_map held_of (slice_get es n) →
     (e : Entry) × (drop n es ≡ e ∷ drop k es) × (h ≡ e.held)

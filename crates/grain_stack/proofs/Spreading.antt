@@ -13,7 +13,7 @@ under_more i xs lt =
     let less : length (under i xs) - 1 ≡ length xs - (i + 1) = omega (arith, long) in
     rw less (sym (take_shorter (length xs - (i + 1)) (length xs - i) xs (omega arith)))
 
--- the last of a front is the first of what is behind one less
+-- the last of a front is the first of what is after one less
 front_last : (n : ℕ) (xs : List Held) → n < length xs →
     drop n xs ≡ top (take (suc n) xs) ∷ drop (suc n) xs
 front_last n [] lt = absurd (omega (arith, lt))

@@ -1,6 +1,5 @@
 -- The last operands of the innermost frame are taken off, and nothing else changes.
-use Rattle.std.proofs.Common.{◌≡◌, ◌∙◌, ◌<◌, ◌≤◌, ℕ, ◌+◌, ◌-◌, List, Bool, true, false, if◌then◌else◌, Result, is_ok, length, drop, take, refl, sym, ap, arith, length-drop}
-use Rattle.grain_value.specs.declared.values.Held.{Held}
+use Rattle.std.proofs.Common.{◌≡◌, ◌∙◌, ◌≤◌, ℕ, ◌-◌, Bool, true, false, if◌then◌else◌, length, drop, refl, ap, arith, length-drop}
 use Rattle.grain_value.specs.Operands.{under, arguments}
 use Rattle.grain_stack.specs.declared.stacks.Stacks.TheInside.{Inside}
 use Rattle.grain_stack.specs.Filled.{Filled}

@@ -128,7 +128,7 @@ impl Left {
         }
     }
 
-    // The first integer of a range, which then begins behind it.
+    // The first integer of a range, which then begins after it.
     fn next_integer(&mut self) -> Option<Dynamic>
         requires { IsRange self.old }
         ensures { Gives (items_left self.old) result (items_left self.new) }

@@ -16,7 +16,7 @@ pub struct FrameEntry<T> {
     pub item: T,
 }
 
-/// Entries of frames, those of the inner frames behind those of the outer ones. Clauses see the
+/// Entries of frames, those of the inner frames after those of the outer ones. Clauses see the
 /// newest first.
 #[derive(Drop)]
 pub struct FrameEntries<T: Drop> {

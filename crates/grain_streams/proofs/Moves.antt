@@ -2,7 +2,7 @@
 use Rattle.std.proofs.Common.{◌≡◌, ℕ, ◌+◌, ◌<◌, List, [], ◌∷◌, ◌++◌, length, min, take, drop, refl, sym, ap, ◌∙◌, arith}
 use Rattle.std.proofs.lemmas.List.{take-append-drop, drop-drop}
 
--- the moved bytes, and the others behind them, are what was left
+-- the moved bytes, and the others after them, are what was left
 pub moved : (place n : ℕ) (bytes slice : List ℕ) → take n slice ≡ take n (drop place bytes) →
     take n slice ++ drop (place + n) bytes ≡ drop place bytes
 moved place n bytes slice same =

@@ -70,12 +70,12 @@ abbrev pub skip_gaps : List ℕ → List ℕ
 skip_gaps [] = []
 skip_gaps (c ∷ cs) = if is_gap c then skip_gaps cs else c ∷ cs
 
--- what follows a space or a tab, and those behind it
+-- what follows a space or a tab, and those after it
 abbrev pub after_gap : List ℕ → Option (List ℕ)
 after_gap [] = None
 after_gap (c ∷ cs) = if is_gap c then Some (skip_gaps cs) else None
 
--- what follows the sign and the spaces or tabs behind it, of which there is at least one
+-- what follows the sign and the spaces or tabs after it, of which there is at least one
 abbrev pub after_sign : List ℕ → List ℕ → Option (List ℕ)
 after_sign sign cs = option_and_then after_gap (after_text sign cs)
 

@@ -219,7 +219,7 @@ fn after_gap(line: &[char]) -> Option<&[char]>
     }
 }
 
-/// What follows the sign and the spaces or tabs behind it, of which there is at least one.
+/// What follows the sign and the spaces or tabs after it, of which there is at least one.
 pub fn after_sign<'a>(sign: &str, line: &'a [char]) -> Option<&'a [char]>
     ensures { option_map (λ r. r.now) result ≡ after_sign sign.now line.now }
 {

@@ -1,5 +1,5 @@
 -- Texts that are made of segments keep to the store.
-use Rattle.std.proofs.Common.{◌≡◌, ◌≤◌, ◌+◌, ◌++◌, ℕ, List, [], ◌∷◌, Option, Some, None, length, refl, arith}
+use Rattle.std.proofs.Common.{◌≤◌, ◌+◌, ◌++◌, ℕ, List, [], ◌∷◌, Option, Some, None, length, refl, arith}
 use Rattle.std.specs.Prelude.{codes}
 use Rattle.grain_value.specs.Cells.{flat}
 use Rattle.grain_value.specs.Looking.{text_of}

@@ -11,14 +11,14 @@ use Rattle.grain_value.specs.declared.values.Dynamic.{Dynamic}
 use Rattle.grain_value.specs.declared.values.Dynamic.TheVariants as dynamic
 use Rattle.grain_value.specs.declared.values.Held.{Held}
 use Rattle.grain_fault.specs.Classes.{catchable}
-use Rattle.grain_fault.specs.Problems.{FaultKind, Plain}
+use Rattle.grain_fault.specs.Problems.{Plain}
 use Rattle.grain_fault.specs.Problems as problem
 use Rattle.grain_fault.specs.declared.faults.MalformedKind.TheVariants as kind
 use Rattle.grain_program.specs.Decoding.{op_at}
 use Rattle.grain_program.specs.declared.code.instruction_set.Op.TheVariants as op
-use Rattle.grain_means.specs.Causes.{AsksNative, IsCalled, IsPassedOver, Question, Raises, Renders, ShowsSegment, as_given, as_plain, as_text, as_type, asks_for_text, native_asked}
-use Rattle.grain_means.specs.Rules.{answer_appended, appended, buffer_ended, flat_or_race, instr, not_a_buffer, operand_under, position, pushed, put_behind, raised, segment_read, showing, showing_failed, shown, stepped, to_string, type_appended}
-use Rattle.grain_means.specs.Worlds.{Act, Setup, World}
+use Rattle.grain_means.specs.Causes.{AsksNative, IsCalled, IsPassedOver, Question, Renders, ShowsSegment, as_given, as_plain, as_text, as_type, asks_for_text, native_asked}
+use Rattle.grain_means.specs.Rules.{answer_appended, appended, buffer_ended, flat_or_race, instr, operand_under, position, pushed, put_behind, raised, segment_read, showing, showing_failed, shown, stepped, to_string, type_appended}
+use Rattle.grain_means.specs.Worlds.{Setup, World}
 use Rattle.grain_means.proofs.Footing.{by_test}
 use Rattle.grain_means.proofs.Lengths.{length_pushed, length_under}
 use Rattle.grain_means.proofs.Tally.Frames.{Walk, Even, Steady, start, steady, even_marked, even_onward, one_more, point}

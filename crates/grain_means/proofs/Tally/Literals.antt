@@ -18,7 +18,7 @@ use Rattle.grain_program.specs.Decoding.{op_at}
 use Rattle.grain_program.specs.declared.code.instruction_set.Op.{Op}
 use Rattle.grain_program.specs.declared.code.instruction_set.Op.TheVariants as op
 use Rattle.grain_means.specs.Causes.{ChecksSize, HasTemplate, MeasuresLent, Raises, ReadsLent}
-use Rattle.grain_means.specs.Rules.{KeyIs, Pairs, PairsAre, PairsLent, counted_in, flat_all, grown, innermost_total, instr, limited, literal_made, make_fn_ptr, make_map, map_made, onward, operand_under, outer_totals, pairs_of, pointer_named, position, pushed, raised, sizes_so_far, stepped, template_read, totals_ended, totals_opened, trees_in, with_totals, check_size}
+use Rattle.grain_means.specs.Rules.{KeyIs, Pairs, PairsAre, PairsLent, counted_in, flat_all, grown, innermost_total, instr, limited, literal_made, map_made, onward, operand_under, outer_totals, pairs_of, pointer_named, position, pushed, raised, sizes_so_far, stepped, template_read, totals_ended, totals_opened, trees_in, with_totals, check_size}
 use Rattle.grain_means.specs.Worlds.{Setup, Total}
 use Rattle.grain_means.proofs.Footing.{Sits, by_test}
 use Rattle.grain_means.proofs.Lengths.{length_pushed, length_under}

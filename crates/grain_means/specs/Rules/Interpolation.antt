@@ -39,7 +39,7 @@ module _ {S : Type 0} (m : Setup S) where
   not_a_buffer v f w =
       raised m f (Plain (Malformed (kind.BufferNotText (type_name_of v))) (position m f)) w
 
-  -- a text goes behind that of the buffer, which was this value
+  -- a text goes after that of the buffer, which was this value
   abbrev pub put_behind : Option (List ℕ) → Dynamic → List ℕ → ℕ → Frame → World S → Act S
   put_behind None v s next f w = not_a_buffer v f w
   put_behind (Some b) v s next f w =
@@ -47,7 +47,7 @@ module _ {S : Type 0} (m : Setup S) where
       then raised m f (Plain (DataTooLarge (codes "Length of string")) (position m f)) w
       else pushed m f next (under 2 f.operands) (dynamic.Text (b ++ s)) w
 
-  -- a text goes behind the buffer, which is the operand under the segment
+  -- a text goes after the buffer, which is the operand under the segment
   abbrev pub appended : List ℕ → ℕ → Frame → World S → Act S
   appended s next f w =
       flattened m (operand_under 1 f.operands) [] f w (λ v. put_behind (text_of v) v s next f w)

@@ -51,7 +51,7 @@ grown s t = record {
 abbrev pub totals_opened : ℕ → List Total → List Total
 totals_opened index ts = if index == 0 then empty_total ∷ ts else ts
 
--- the totals once a literal of so many elements is made: one with elements is over, if it has a total
+-- the totals once a literal of that many elements is made: one with elements is over, if it has a total
 abbrev pub totals_ended : ℕ → List Total → List Total
 totals_ended count ts = if count == 0 then ts else outer_totals ts
 
@@ -90,7 +90,7 @@ pairs_of cells (k ∷ v ∷ hs) es =
     (λ s u. pairs_of cells hs (put_entry s (tree u) es))
 
 module _ {S : Type 0} (m : Setup S) where
-  -- a literal of so many elements is made, and stands in their place
+  -- a literal of that many elements is made, and stands in their place
   abbrev pub literal_made : ℕ → Dynamic → List Held → ℕ → Frame → World S → Act S
   literal_made count v operands next f w =
       onward m f (with_totals (totals_ended count f.totals)

@@ -108,7 +108,7 @@ pub enum Op {
     CheckMapSize(u16),
     /// `interpolate_start`: a text without characters.
     InterpolateStart,
-    /// `interpolate_append`: the last operand is written behind the text below it.
+    /// `interpolate_append`: the last operand is written after the text below it.
     InterpolateAppend,
     /// `interpolate_end`: the text that the last operand is.
     InterpolateEnd,

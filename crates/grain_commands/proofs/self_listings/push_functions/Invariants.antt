@@ -1,4 +1,4 @@
--- The functions so far stand behind what was there.
+-- The functions so far stand after what was there.
 use Rattle.std.proofs.Common.{◌≡◌, ◌++◌}
 use Rattle.grain_commands.specs.SelfListings.{for_each, function_block}
 use Rattle.grain_commands.proofs.self_listings.push_functions.Given as goal

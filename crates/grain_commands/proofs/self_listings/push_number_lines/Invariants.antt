@@ -1,4 +1,4 @@
--- The lines so far stand behind what was there.
+-- The lines so far stand after what was there.
 use Rattle.std.proofs.Common.{◌≡◌, ◌++◌}
 use Rattle.grain_commands.specs.SelfListings.{number_lines}
 use Rattle.grain_commands.proofs.self_listings.push_number_lines.Given as goal

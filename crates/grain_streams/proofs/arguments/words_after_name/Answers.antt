@@ -5,7 +5,7 @@ use Rattle.std.specs.Option.{IsSome, option_to_list}
 use Rattle.std.specs.Vec.Iter.{into_iter_items, into_iter_len}
 use Rattle.grain_streams.proofs.arguments.words_after_name.Goals as goal
 
--- what is left behind a first item that was taken
+-- what is left after a first item that was taken
 behind : {X : Type 0} (first : Option X) (all left : List X) → all ≡ option_to_list first ++ left →
     (0 < length all → IsSome first) → drop 1 all ≡ left
 behind (Some x) all left e some = ap (drop 1) e

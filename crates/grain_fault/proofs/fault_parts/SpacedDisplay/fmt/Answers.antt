@@ -1,4 +1,4 @@
--- A token is written behind the ones before it.
+-- A token is written after the ones before it.
 use Rattle.std.proofs.Common.{◌≡◌, [], ◌∷◌, List, refl, take, arith, subst}
 use Rattle.std.specs.Fmt.{HasWritten}
 use Rattle.std.proofs.lemmas.List.{take_all}

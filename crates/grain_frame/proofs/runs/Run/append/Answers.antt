@@ -1,10 +1,10 @@
 -- The buffer is a cell that is lent, no text, or a text, to which the text is not too much.
-use Rattle.std.proofs.Common.{◌≡◌, ◌∙◌, ◌+◌, ◌-◌, ◌++◌, [], Some, None, Ok, true, false, length, refl, sym, ap, subst, arith, rules}
+use Rattle.std.proofs.Common.{◌≡◌, ◌+◌, ◌-◌, ◌++◌, [], Some, None, true, false, length, refl, arith, rules}
 use Rattle.std.specs.Prelude.{codes}
 use Rattle.std.proofs.lemmas.List.{length-take}
 use Rattle.grain_value.specs.Cells.{flat}
 use Rattle.grain_value.specs.Looking.{text_of}
-use Rattle.grain_value.specs.Operands.{below, top, under}
+use Rattle.grain_value.specs.Operands.{below, under}
 use Rattle.grain_value.specs.Sizes.{is_over}
 use Rattle.grain_value.specs.Writing.{type_name_of}
 use Rattle.grain_value.specs.declared.values.Dynamic.TheVariants as dynamic

@@ -1,5 +1,5 @@
 -- A native shows the segment, or its plain text is appended.
-use Rattle.std.proofs.Common.{◌≡◌, ◌∙◌, ◌∷◌, [], Err, None, Ok, Some, refl, sym, true, rules}
+use Rattle.std.proofs.Common.{◌≡◌, ◌∙◌, ◌∷◌, [], Err, None, refl, sym, true, rules}
 use Rattle.grain_value.specs.Cells.{flat}
 use Rattle.grain_value.specs.Operands.{read_write, top}
 use Rattle.grain_value.specs.Writing.{kind_of}

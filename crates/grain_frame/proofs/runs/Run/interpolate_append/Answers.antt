@@ -1,5 +1,5 @@
 -- The segment is a cell that is lent, a text, or a value that is shown.
-use Rattle.std.proofs.Common.{◌≡◌, ◌∙◌, [], Err, None, Some, refl, true, rules}
+use Rattle.std.proofs.Common.{◌≡◌, [], Err, None, Some, refl, true, rules}
 use Rattle.grain_value.specs.Cells.{flat}
 use Rattle.grain_value.specs.Looking.{text_of}
 use Rattle.grain_value.specs.Operands.{top}

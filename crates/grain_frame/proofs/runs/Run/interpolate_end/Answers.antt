@@ -1,5 +1,5 @@
 -- The buffer is a cell that is lent, no text, or a text.
-use Rattle.std.proofs.Common.{◌≡◌, ◌∙◌, ◌-◌, [], Some, None, length, refl, arith, rules}
+use Rattle.std.proofs.Common.{◌≡◌, ◌-◌, [], Some, None, length, refl, arith, rules}
 use Rattle.std.proofs.lemmas.List.{length-take}
 use Rattle.grain_value.specs.Cells.{flat}
 use Rattle.grain_value.specs.Looking.{text_of}

@@ -1,5 +1,5 @@
 -- The elements can be read, and memory is there for them.
-use Rattle.std.proofs.Common.{◌≡◌, ◌∙◌, ◌-◌, [], Some, None, Ok, length, true, refl, arith, rules}
+use Rattle.std.proofs.Common.{◌≡◌, ◌-◌, [], None, length, true, refl, arith, rules}
 use Rattle.std.proofs.lemmas.List.{length-take}
 use Rattle.grain_value.specs.Operands.{arguments, under}
 use Rattle.grain_fault.specs.Problems.{Plain, DataRace}

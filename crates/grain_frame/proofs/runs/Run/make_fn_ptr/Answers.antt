@@ -1,5 +1,5 @@
 -- The operand is no text, no name of functions, or a name of which a pointer is made.
-use Rattle.std.proofs.Common.{◌≡◌, ◌∙◌, ◌-◌, [], Some, None, Ok, true, false, length, refl, arith, rules}
+use Rattle.std.proofs.Common.{◌≡◌, ◌-◌, [], Some, None, true, false, length, refl, arith, rules}
 use Rattle.std.proofs.lemmas.List.{length-take}
 use Rattle.std.specs.Prelude.{codes}
 use Rattle.grain_value.specs.Cells.{flat}

@@ -1,7 +1,6 @@
 -- One element more was taken.
-use Rattle.std.proofs.Common.{◌≡◌, ◌∙◌, ◌++◌, ◌∷◌, [], List, Some, reverse, ap, rules}
+use Rattle.std.proofs.Common.{◌≡◌, ◌∙◌, ◌++◌, ◌∷◌, [], List, reverse, ap, rules}
 use Rattle.std.proofs.lemmas.List.{reverse-reverse}
-use Rattle.grain_value.specs.Cells.{flat}
 use Rattle.grain_value.specs.Operands.{arguments}
 use Rattle.grain_value.specs.Tree.{Tree}
 use Rattle.grain_value.specs.View.{tree}

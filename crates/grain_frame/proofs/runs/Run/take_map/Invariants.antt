@@ -1,5 +1,5 @@
 -- What was taken so far, and what is left of it, are all pairs; a value is left with each key.
-use Rattle.std.proofs.Common.{◌≡◌, ◌+◌, ℕ, List, Some, length, reverse}
+use Rattle.std.proofs.Common.{◌≡◌, ◌+◌, ℕ, Some, length, reverse}
 use Rattle.grain_value.specs.Cells.{flat}
 use Rattle.grain_value.specs.Maps.{Entries}
 use Rattle.grain_value.specs.Operands.{arguments}

@@ -1,4 +1,4 @@
--- The range is not at its end, at its end, or behind it.
+-- The range is not at its end, at its end, or past it.
 use Rattle.grain_stack.specs.Cursors.{items_left}
 use Rattle.std.proofs.Common.{◌≡◌, [], pos, false, ap, ⊎_elim, ◌+ℤ◌, ◌<ℤ◌, ◌≤ℤ◌, FitsSigned, w64, to_z, of_z, rules, arith}
 use Rattle.std.proofs.lemmas.Int.{ints, to_z-of_z}

@@ -1,4 +1,4 @@
--- The frame around it has lost the arguments, and there is room for the new one behind what is left.
+-- The frame around it has lost the arguments, and there is room for the new one after what is left.
 use Rattle.std.proofs.Common.{◌≡◌, ◌∙◌, ◌-◌, ◌≤◌, ◌++◌, ◌∷◌, [], ℕ, List, false, length, drop, take, refl, ap, arith, rules, length-append, length-drop}
 use Rattle.std.proofs.lemmas.List.{take-append-le}
 use Rattle.std.proofs.Math.Seq.{take-length}
