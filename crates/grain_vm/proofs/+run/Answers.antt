@@ -1,6 +1,6 @@
 use Rattle.std.proofs.Common.{◌≡◌, ◌∙◌, ◌<◌, ◌-◌, arith, rules, ℕ, Option, Ok, length, refl, subst, None, ap, ◌+◌, ◌++◌, ◌∷◌, [], Some, map, sym, true, Err, inr}
 use Rattle.grain_means.specs.Means.{setup}
-use Rattle.grain_frame.specs.Abstraction.{frame_in, this_of, is_out, moment, abstraction, ImplementsBound}
+use Rattle.grain_frame.specs.Abstraction.{frame_in, this_of, is_out, moment, abstraction, Implements, ImplementsBound}
 use Rattle.grain_vm.specs.Driving.{IsApart}
 use Rattle.grain_vm.specs.Methods.{NoneAbove, given_to}
 use Rattle.grain_frame.specs.declared.waiting.Performed.TheVariants as performed
@@ -35,7 +35,7 @@ use Rattle.grain_vm.proofs.Performing.{same_flag}
 use Rattle.grain_frame.specs.Waiting.{apart_of}
 use Rattle.std.specs.Prelude.{option_map, codes}
 use Rattle.std.specs.Vec.{vec_items}
-use Rattle.grain_vm.specs.Finding.{op_on}
+use Rattle.grain_vm.specs.Finding.{found_of, op_on}
 use Rattle.grain_vm.specs.Receivers.{called}
 use Rattle.grain_vm.proofs.OnFrames.{callee_out, callee_refused, finds_on_of, first_found, first_on, one_less, function_performed, on_function, pointed_on, target_found, two_there}
 use Rattle.grain_vm.proofs.OnCalls.{call_out, function_done, native_done}

@@ -1,5 +1,5 @@
 -- The instruction that was fetched is the one at which the frame stands.
-use Rattle.std.proofs.Common.{length}
+use Rattle.std.proofs.Common.{length, refl}
 use Rattle.grain_program.specs.declared.code.instruction_set.Op.TheVariants as op
 use Rattle.grain_frame.specs.lemmas.Arms.{stands, typed_with}
 use Rattle.grain_vm.proofs.attempts.pending_at.Goals as goal

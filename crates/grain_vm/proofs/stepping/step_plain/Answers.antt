@@ -1,6 +1,7 @@
 -- The instruction that was fetched is the one at which the frame stands.
 use Rattle.std.proofs.Common.{length, refl}
 use Rattle.grain_frame.specs.lemmas.Arms.{ready, stands, typed_with}
+use Rattle.grain_vm.proofs.Plain.{plain_asks, plain_calls, plain_runs}
 use Rattle.grain_vm.proofs.stepping.step_plain.Goals as goal
 
 pub fetch-op-requires : goal.fetch-op-requires

@@ -1,6 +1,6 @@
 -- The second load is what its rule says, and what stands after it is done from where it would have left
 -- the frame.
-use Rattle.std.proofs.Common.{rules, ◌≡◌, inr, w64, FitsSigned}
+use Rattle.std.proofs.Common.{rules, ◌≡◌, ◌∙◌, inr, sym, w64, FitsSigned}
 use Rattle.std.proofs.lemmas.Int.{to_z-of_z}
 use Rattle.grain_value.specs.declared.values.Dynamic.TheVariants as dynamic
 use Rattle.grain_program.specs.View.{const_of}

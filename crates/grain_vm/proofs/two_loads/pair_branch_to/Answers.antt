@@ -1,5 +1,6 @@
 -- Each way on is what the rule of the branch says.
-use Rattle.std.proofs.Common.{rules, ◌≡◌, ◌<◌, ◌≤◌, length, true, false, arith}
+use Rattle.std.proofs.Common.{rules, ◌≡◌, ◌<◌, ◌≤◌, length, true, false, arith, w64, FitsSigned}
+use Rattle.std.proofs.lemmas.Int.{to_z-of_z}
 use Rattle.grain_means.specs.Rules.{agrees}
 use Rattle.grain_frame.specs.Abstraction.{moved, marked_once}
 use Rattle.grain_vm.specs.Following.{loaded, begun_behind}

@@ -35,7 +35,7 @@ elements-preserved g c =
     let was = c.elements.invariant in
     let h = c.in-Some.held in
     let last : c.elements.taken.items ≡ c.pop.new.self.items ++ h ∷ [] = search rules in
-    let v = c.in_ok-flat_value.value in
+    let v = c.in_ok-flat_value.field-0 in
     let grown : c.push.new.self ≡ c.elements.array ++ tree v ∷ [] = search rules in
     let more = element_more c.args.self.now.cells c.elements.taken.items c.pop.new.self.items h
     last was.0 was.1 v c.elements.array c.push.new.self c.in_ok-flat_value.ensures grown in
