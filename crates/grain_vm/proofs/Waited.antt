@@ -153,12 +153,12 @@ module _ {H : Type 0} (p : View) (f : Activation) (s s' : Run H) (l : Loan)
   leads_over (rest.Operate a) takes gives ts lends leads =
       (goes_operate a l lends over leads.0, leads.1, leads.2, leads.3)
   leads_over (rest.Show name next) takes gives ts lends leads = (
-    (
-      omega (arith, leads.0.0, long),
-      omega (arith, leads.0.1, operands),
-      omega (arith, leads.0.2, operands, over.room),
-      leads.0.3,
-    ),
+    record {
+      inside = omega (arith, leads.0.inside, long);
+      operands = omega (arith, leads.0.operands, operands);
+      room = omega (arith, leads.0.room, operands, over.room);
+      ahead = leads.0.ahead;
+    },
     leads.1,
     leads.2,
     leads.3,
@@ -169,7 +169,7 @@ pub leads_inside : {H : Type 0} (p : View) (f : Activation) (s : Run H) (r : Res
 leads_inside p f s (rest.Push count next) takes gives ts leads = leads.0
 leads_inside p f s (rest.Assign a) takes gives ts leads = leads.0.inside
 leads_inside p f s (rest.Operate a) takes gives ts leads = leads.0.inside
-leads_inside p f s (rest.Show name next) takes gives ts leads = leads.0.0
+leads_inside p f s (rest.Show name next) takes gives ts leads = leads.0.inside
 
 -- ---- the frame
 

@@ -57,6 +57,7 @@ back_given s (rest.Assign a) (have.Target t) lends kept =
 back_given s (rest.Assign a) (have.Cell n h) lends kept = given_free s n h a.target lends.0
 back_given s (rest.Assign a) (have.Apart h) lends kept = absurd lends
 back_given s (rest.Operate a) l lends kept = tt
+back_given s (rest.Show name next) l lends kept = tt
 
 pub back_told : {H : Type 0} (s s' : Run H) (r : Rest) (l : Loan)
     (o : Result Dynamic EvalAltResult) (given : Option Held) → Lends r l →
@@ -69,6 +70,7 @@ back_told s s' (rest.Assign a) (have.Cell n h) o given lends told =
     subst (λ (x : Target). IsNotLent s' x) (sym lends.0) told.left.1
 back_told s s' (rest.Assign a) (have.Apart h) o given lends told = absurd lends
 back_told s s' (rest.Operate a) l o given lends told = tt
+back_told s s' (rest.Show name next) l o given lends told = tt
 
 -- what an op-assignment writes can be read as before
 module _ {H : Type 0} (s s' : Run H) where
@@ -129,6 +131,23 @@ module _ {H : Type 0} (p : View) (f : Activation) (s s' : Run H) (l : Loan) (r :
   leads_told (rest.Operate a) takes gives ts lends leads = (
     goes_told a (holds_beside s s' (record s.stacks { trace = s'.stacks.trace }) a.target
         (subst (λ (y : Loan). Untouched y s s') lends told.same) leads.0.target) leads.0,
+    leads.1,
+    leads.2,
+    leads.3,
+  )
+  leads_told (rest.Show name next) takes gives ts lends leads = (
+    record {
+      inside = omega (arith, leads.0.inside, told.long);
+      operands = omega (arith, leads.0.operands, same_operands);
+      room =
+          omega (
+            arith,
+            leads.0.room,
+            same_operands,
+            ap (λ (q : Run H). q.stacks.room) told.others,
+          );
+      ahead = leads.0.ahead;
+    },
     leads.1,
     leads.2,
     leads.3,
