@@ -1,9 +1,9 @@
 -- A call of the machine, as the end that the program means.
-use Rattle.std.proofs.Common.{◌≡◌, ◌≢◌, ◌++◌, ℕ, Bool, true, List, [], Result, Ok, Err, IfOk, refl, ap, ◌∙◌}
+use Rattle.std.proofs.Common.{◌≡◌, ◌≢◌, ◌++◌, ℕ, Bool, true, List, [], Result, Ok, Err, IfOk, refl, sym, ap, ◌∙◌}
 use Rattle.grain_value.specs.declared.memory.OutOfMemory.{OutOfMemory}
 use Rattle.grain_value.specs.declared.values.Dynamic.{Dynamic}
 use Rattle.grain_value.specs.declared.values.Limits.{Limits}
-use Rattle.grain_fault.specs.Problems.{NoMemory, problem_of}
+use Rattle.grain_fault.specs.Problems.{Problem, NoMemory, problem_of}
 use Rattle.grain_fault.specs.declared.traces.Fault.{Fault}
 use Rattle.grain_fault.specs.declared.faults.EvalAltResult.{EvalAltResult}
 use Rattle.grain_fault.specs.declared.faults.EvalAltResult.TheVariants as faults
@@ -19,7 +19,7 @@ use Rattle.grain_vm.specs.VmView.{VmView}
 use Rattle.grain_means.specs.Worlds.{Answer, Came, Failed}
 use Rattle.grain_means.specs.Means.{Begin, Finish, Means, Evaluates}
 use Rattle.grain_commands.specs.Reports.{report_fault}
-use Rattle.grain_commands.specs.Runs.{Reported, engine_of, start, value_text}
+use Rattle.grain_commands.specs.Runs.{Reported, answer_text, engine_of, start, status_of, value_text}
 use Rattle.grain_commands.specs.declared.replies.Reply.{Reply}
 
 -- a fault other than want of memory is the end that the program means
@@ -63,16 +63,23 @@ pub value_told : (told : Bool) (p : View) (under : Engine) (first : Begin TableH
     IfOk r (λ x. x.text ≡ value_text told (finish (Came v)) v) →
     IfOk r (λ x. Reported told p under first x.status x.text)
 value_told told p under first v e b finish ran (Err m) engine begun is h status text = tt
-value_told told p under first v e b finish ran (Ok x) engine begun is h status text =
-    record {
-      end = finish (Came v);
-      instructions = ran;
-      means = rw (engine, begun) at h;
-      number =
-          rw is status;
-      written = rw is text;
-      memory = rw is (no_value v);
-    }
+value_told told p under first v e b finish ran (Ok x) engine begun is h status text = record {
+  end = finish (Came v);
+  instructions = ran;
+  means = rw (engine, begun) at h;
+  number = status ∙ ap status_of (sym is);
+  written = text ∙ ap (answer_text told (finish (Came v))) (sym is);
+  memory = λ none. no_value v (sym is ∙ none);
+}
+
+-- the text of an end in a fault
+fault_written : (told : Bool) (end : Finish TableHost) (printed : List ℕ) (p : Problem)
+    (trace : List Fault) → end.answer ≡ Failed p → end.trace ≡ trace → end.host.printed ≡ printed →
+    printed ++ report_fault p trace ≡ answer_text told end end.answer
+fault_written told end printed p trace answer left text =
+    ap (λ (x : List ℕ). x ++ report_fault p trace) (sym text) ∙
+    ap (λ (x : List Fault). end.host.printed ++ report_fault p x) (sym left) ∙
+    ap (answer_text told end) (sym answer)
 
 pub fault_told : (told : Bool) (p : View) (under : Engine) (first : Begin TableHost) (f : EvalAltResult)
     (e : Engine)
@@ -93,9 +100,9 @@ fault_told told p under first f e b finish printed trace ran (Ok x) engine begun
     record {
       end = finish (Failed (problem_of f));
       instructions = ran;
-      means =
-          rw (engine, begun) at means;
-      number = rw is.0 status;
-      written = rw (is.0, is.1, is.2) text;
-      memory = rw is.0 (no_want f other);
+      means = rw (engine, begun) at means;
+      number = status ∙ ap status_of (sym is.0);
+      written = text ∙ fault_written told (finish (Failed (problem_of f))) printed (problem_of f) trace
+          is.0 is.1 is.2;
+      memory = λ none. no_want f other (sym is.0 ∙ none);
     }

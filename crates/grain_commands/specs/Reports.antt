@@ -1,5 +1,5 @@
 -- What is written of a run's end.
-use Rattle.std.specs.Prelude.{ℕ, List, [], ◌∷◌, ◌++◌, Option, Some, None, codes}
+use Rattle.std.specs.Prelude.{ℕ, Bool, true, false, List, [], ◌∷◌, ◌++◌, Option, Some, None, codes}
 use Rattle.std.specs.Fmt.{decimal}
 use Rattle.grain_value.specs.Cells.{seen}
 use Rattle.grain_value.specs.Writing.{quoted}
@@ -22,6 +22,12 @@ report_value cells value = codes "value " ++ quoted (seen cells value) ++ line_e
 abbrev pub counted_value : List Cell → Dynamic → ℕ → List ℕ
 counted_value cells value operations = codes "value " ++ quoted (seen cells value) ++
     codes " operations " ++ decimal operations ++ line_end
+
+-- what is written of a value after this was printed: that and the value's report; or, where operations are
+-- told, the value and how many there were
+abbrev pub told_value : Bool → List ℕ → List Cell → Dynamic → ℕ → List ℕ
+told_value false printed cells value operations = printed ++ report_value cells value
+told_value true printed cells value operations = counted_value cells value operations
 
 -- the slot of a chain's step stands after a colon
 abbrev pub slot_text : Option ℕ → List ℕ

@@ -13,7 +13,7 @@ use Rattle.grain_global.specs.declared.engines.Engine.{Engine}
 use Rattle.grain_means.specs.Worlds.{Answer, Came, Failed}
 use Rattle.grain_means.specs.Means.{Begin, Finish, Means}
 use Rattle.grain_vm.specs.Machines.{begin}
-use Rattle.grain_commands.specs.Reports.{counted_value, report_value, report_fault}
+use Rattle.grain_commands.specs.Reports.{report_value, report_fault, told_value}
 
 -- the limits that the listing says, and whether it says that operators are fast and properties
 -- strict; natives may call functions back
@@ -42,11 +42,11 @@ answer_report cells (Failed p) trace = report_fault p trace
 abbrev pub report : Finish TableHost → List ℕ
 report end = end.host.printed ++ answer_report end.cells end.answer end.trace
 
--- what is written of a value: what the host has printed and the value's report; or, where operations are
--- told, the value and how many there were
+-- what is written of a value at this end: what the host has printed and the value's report; or, where
+-- operations are told, the value and how many there were
 abbrev pub value_text : Bool → Finish TableHost → Dynamic → List ℕ
-value_text false end v = end.host.printed ++ report_value end.cells v
-value_text true end v = counted_value end.cells v end.global.num_operations
+value_text told end v =
+    told_value told end.host.printed end.cells v end.global.num_operations
 
 -- what is written of an end with this answer
 abbrev pub answer_text : Bool → Finish TableHost → Answer → List ℕ

@@ -8,7 +8,7 @@ ghost use Rattle.grain_commands.specs.Replies.{Replies};
 ghost use Rattle.grain_commands.specs.Runs.{Reported, engine_of, start};
 ghost use Rattle.grain_commands.specs.SelfListings.{self_listing};
 
-use crate::replies::{Reply, counted_reply, fault_reply, no_listing, refused, value_reply};
+use crate::replies::{Reply, fault_reply, no_listing, refused, told_reply};
 use crate::self_listings::self_listing;
 use grain_host::TableHost;
 use grain_listing::{Listing, read};
@@ -43,11 +43,10 @@ fn run_program<L: Ledger>(
     let mut cells = Store::new(alloc);
     let mut host = host;
     match vm.eval_with_callbacks(alloc, &mut host, &mut cells, &mut scope, program, steps) {
-        Ok(value) if told => {
+        Ok(value) => {
             let operations = vm.into_global_state().num_operations;
-            counted_reply(alloc, &value, &cells, operations)
+            told_reply(alloc, told, host.printed(), &value, &cells, operations)
         }
-        Ok(value) => value_reply(alloc, host.printed(), &value, &cells),
         Err(fault) => fault_reply(alloc, host.printed(), &fault, vm.fault_trace()),
     }
 }
@@ -86,7 +85,7 @@ fn run_set_up<L: Ledger>(
     }
 }
 
-// Reads a listing, verifies what it says and runs it.
+/// Reads a listing, verifies what it says and runs it.
 fn run_bytes<L: Ledger>(
     alloc: Global,
     bytes: &[u8],

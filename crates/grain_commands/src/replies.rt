@@ -5,7 +5,7 @@ ghost use Rattle.std.specs.Fmt.{decimal};
 ghost use Rattle.grain_fault.specs.Problems.{problem_of};
 ghost use Rattle.grain_fault.specs.declared.faults.EvalAltResult.TheVariants as faults;
 ghost use Rattle.grain_program.specs.declared.verifier.refusals.Refusal.TheVariants as refusals;
-ghost use Rattle.grain_commands.specs.Reports.{counted_value, line_end, report_value, report_fault};
+ghost use Rattle.grain_commands.specs.Reports.{counted_value, line_end, report_value, report_fault, told_value};
 ghost use Rattle.grain_commands.specs.Replies.{usage_text, bad_line_text, refusal_text};
 
 use crate::reports::{report_fault, report_value};
@@ -87,7 +87,7 @@ pub fn refused(alloc: Global, refusal: Refusal) -> Result<Reply, OutOfMemory>
 }
 
 /// The reply to a run that ended in a value: 0, what was printed, and the value's report.
-pub fn value_reply(
+fn value_reply(
     alloc: Global,
     printed: &Text,
     value: &Dynamic,
@@ -104,7 +104,7 @@ pub fn value_reply(
 
 /// The reply to a run that ended in a value, where its operations are told: 0, the value and their
 /// number.
-pub fn counted_reply(
+fn counted_reply(
     alloc: Global,
     value: &Dynamic,
     cells: &Store,
@@ -119,6 +119,27 @@ pub fn counted_reply(
     text.push_number(operations)?;
     text.push_str("\n")?;
     Ok(Reply { status: 0, text })
+}
+
+/// The reply to a run that ended in a value after this many operations: where they are told, the value and
+/// their number, and otherwise what was printed and the value's report.
+pub fn told_reply(
+    alloc: Global,
+    told: bool,
+    printed: &Text,
+    value: &Dynamic,
+    cells: &Store,
+    operations: u64,
+) -> Result<Reply, OutOfMemory>
+    ensures status { IfOk result (λ r. r.status ≡ 0) }
+    ensures text { IfOk result (λ r.
+        r.text ≡ told_value told printed.now cells.now value.now operations) }
+{
+    if told {
+        counted_reply(alloc, value, cells, operations)
+    } else {
+        value_reply(alloc, printed, value, cells)
+    }
 }
 
 /// The reply to a run that ended in a fault: 1, what was printed, and the fault's report. If the

@@ -24,17 +24,17 @@ returns-in-Ok g c =
     begin_is c.args.scope c.new-cells.result c.args.host c.in_ok-vm.vm written c.new-cells.ensures
     c.in_ok-vm.ensures in
     let run = c.in-Ok.ensures.evaluates in
-    let text = rw c.printed.ensures at c.value_reply.ensures.text in
-    value_told false c.args.program.now under first c.in-Ok.value
+    let text = rw (c.printed.ensures, c.into_global_state-operations.ensures) at c.told_reply.ensures.text in
+    value_told c.args.told c.args.program.now under first c.in-Ok.value
     (with_callbacks true c.in_ok-vm.vm.engine)
     (begin c.args.scope c.new-cells.result c.args.host c.in_ok-vm.vm.global)
     (finish c.eval_with_callbacks.new.self.trace c.eval_with_callbacks.new.scope
     c.eval_with_callbacks.new.cells c.eval_with_callbacks.new.host
-    c.eval_with_callbacks.new.self.global) run.0 c.value_reply.result engine begun refl
-    run.1.0 c.value_reply.ensures.status text
+    c.eval_with_callbacks.new.self.global) run.0 c.told_reply.result engine begun refl
+    run.1.0 c.told_reply.ensures.status text
 
-pub returns : goal.returns
-returns g c =
+pub returns-in-Err : goal.returns-in-Err
+returns-in-Err g c =
     let under : Engine = engine_of c.args.limits c.args.fast_operators c.args.strict_properties in
     let first : Begin TableHost = start c.args.scope c.args.host in
     let written : Engine = record c.new-engine.result {
