@@ -31,8 +31,8 @@ returns-in-None g c =
           c.data_race.ensures c.requires.ready.inside (λ stop u place. rw none refl));
     }
 
-pub returns-in-Some-Text : goal.returns-in-Some-Text
-returns-in-Some-Text g c =
+pub returns-in_ok-segment-in-Some-Text : goal.returns-in_ok-segment-in-Some-Text
+returns-in_ok-segment-in-Some-Text g c =
     let p = c.args.context.program.now in
     let engine = c.args.context.engine.now in
     let s = c.args.self.now in
@@ -47,8 +47,8 @@ returns-in-Some-Text g c =
           (λ stop u place. rw (read, c.in_ok-segment.ensures) refl));
     }
 
-pub returns-in_err-segment : goal.returns-in_err-segment
-returns-in_err-segment g c =
+pub returns-in_err-segment-in-Some-Text : goal.returns-in_err-segment-in-Some-Text
+returns-in_err-segment-in-Some-Text g c =
     let p = c.args.context.program.now in
     let engine = c.args.context.engine.now in
     let s = c.args.self.now in

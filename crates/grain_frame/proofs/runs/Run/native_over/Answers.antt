@@ -5,7 +5,7 @@ use Rattle.grain_means.specs.Rules.{no_memory}
 use Rattle.grain_frame.specs.Abstraction.{Raises}
 use Rattle.grain_frame.specs.lemmas.Bound.{as_bound}
 use Rattle.grain_frame.specs.lemmas.Failing.{raises_here}
-use Rattle.grain_frame.specs.lemmas.Performing.{led, led_so, less_led, waits_as}
+use Rattle.grain_frame.specs.lemmas.Performing.{led, led_exactly, led_so, less_led, waits_as}
 use Rattle.grain_frame.proofs.runs.Run.native_over.Goals as goal
 
 pub returns-in-Ok : goal.returns-in-Ok
@@ -50,8 +50,8 @@ returns-in-Push g c =
       less = tt;
     })
 
-pub returns : goal.returns
-returns g c =
+pub returns-in-Operate : goal.returns-in-Operate
+returns-in-Operate g c =
     let p = c.args.context.program.now in
     let engine = c.args.context.engine.now in
     let s = c.args.self.now in
@@ -71,4 +71,16 @@ returns g c =
           c.raise-in-Operate.new.steps c.args.host.now x (Ok c.raise-in-Operate.result) raises
           leads.0.inside (λ stop u place. rw not_out refl)));
       less = tt;
+    })
+
+pub returns : goal.returns
+returns g c =
+    let not_out : no_memory (problem_of c.in-Err.fault) ≡ false =
+    rw c.in-Err.is at c.requires.not_out in
+    rw (c.in-Err.is, c.in-Show.is) (record {
+      implements = λ takes gives targets h leads plain. rw (leads.1, leads.2, leads.3)
+          (waits_as (led_exactly c.showing_failed.result c.of-in-Show.result c.of-in-Show.ensures
+          (c.showing_failed.ensures.implements c.args.host.now))
+          (λ stop u place bound. rw not_out refl));
+      less = less_led _ c.showing_failed.result c.of-in-Show.result c.of-in-Show.ensures;
     })
