@@ -44,7 +44,7 @@ returns-in_ok-segment-in-Some-Text g c =
       performs = led_exactly c.append.result c.of-in-Some-Text.result c.of-in-Some-Text.ensures
           (implements_as g.H.Host.law p engine f c.append.new.frame s s c.append.new.self
           c.args.steps.now c.append.new.steps host host refl (c.append.ensures.implements host)
-          (λ stop u place. rw (read, c.in_ok-segment.ensures) refl));
+          (λ stop u place. rw (read, c.in_ok-segment-in-Some-Text.ensures) refl));
     }
 
 pub returns-in_err-segment-in-Some-Text : goal.returns-in_err-segment-in-Some-Text
@@ -58,9 +58,9 @@ returns-in_err-segment-in-Some-Text g c =
     let read : flat s.cells (top s.stacks.operands).value ≡ Some (dynamic.Text t) = search rules in
     let out : is_out c.from_residual.result ≡ true = search rules in
     record {
-      performs = led_out c.in_err-segment.field-0.0 c.from_residual.result out
+      performs = led_out c.in_err-segment-in-Some-Text.field-0.0 c.from_residual.result out
           (as_bound (wants_memory g.H.Host.law p engine f s c.args.steps.now host
-          (Err c.in_err-segment.field-0.0) refl c.requires.ready.inside (λ stop u place halts.
+          (Err c.in_err-segment-in-Some-Text.field-0.0) refl c.requires.ready.inside (λ stop u place halts.
           rw read (appended_stops (stopped (setup g.H.Host.law p engine) stop) (frame_in f s place)
           (world (abstraction s c.args.steps.now host) u) halts t c.args.next))));
     }

@@ -3,6 +3,7 @@ use Rattle.std.proofs.Common.{◌≡◌, Ok, false, refl}
 use Rattle.grain_fault.specs.Problems.{problem_of}
 use Rattle.grain_means.specs.Rules.{no_memory}
 use Rattle.grain_frame.specs.Abstraction.{Raises}
+use Rattle.grain_frame.specs.declared.waiting.Rest.TheVariants as rest
 use Rattle.grain_frame.specs.lemmas.Bound.{as_bound}
 use Rattle.grain_frame.specs.lemmas.Failing.{raises_here}
 use Rattle.grain_frame.specs.lemmas.Performing.{led, led_exactly, led_so, less_led, waits_as}
@@ -82,5 +83,5 @@ returns g c =
           (waits_as (led_exactly c.showing_failed.result c.of-in-Show.result c.of-in-Show.ensures
           (c.showing_failed.ensures.implements c.args.host.now))
           (λ stop u place bound. rw not_out refl));
-      less = less_led _ c.showing_failed.result c.of-in-Show.result c.of-in-Show.ensures;
+      less = less_led (rest.Show c.in-Show.type_name c.in-Show.next) c.showing_failed.result c.of-in-Show.result c.of-in-Show.ensures;
     })
