@@ -1,5 +1,5 @@
 -- A call of the machine, as the end that the program means.
-use Rattle.std.proofs.Common.{◌≡◌, ◌≢◌, ◌++◌, ℕ, Bool, true, List, [], Result, Ok, Err, IfOk, refl, sym, ap, ◌∙◌}
+use Rattle.std.proofs.Common.{◌≡◌, ◌≢◌, ◌++◌, ℕ, Bool, true, List, Result, Ok, Err, IfOk, refl, sym, ap, subst, ◌∙◌}
 use Rattle.grain_value.specs.declared.memory.OutOfMemory.{OutOfMemory}
 use Rattle.grain_value.specs.declared.values.Dynamic.{Dynamic}
 use Rattle.grain_value.specs.declared.values.Limits.{Limits}
@@ -12,14 +12,10 @@ use Rattle.grain_host.specs.declared.tables.TableHost.{TableHost}
 use Rattle.grain_program.specs.View.{View}
 use Rattle.grain_global.specs.Engines.{with_callbacks}
 use Rattle.grain_global.specs.declared.engines.Engine.{Engine}
-use Rattle.grain_value.specs.declared.scopes.Entry.{Entry}
-use Rattle.grain_value.specs.declared.stores.Cell.{Cell}
-use Rattle.grain_vm.specs.Machines.{begin}
-use Rattle.grain_vm.specs.VmView.{VmView}
 use Rattle.grain_means.specs.Worlds.{Answer, Came, Failed}
 use Rattle.grain_means.specs.Means.{Begin, Finish, Means, Evaluates}
 use Rattle.grain_commands.specs.Reports.{report_fault}
-use Rattle.grain_commands.specs.Runs.{Reported, answer_text, engine_of, start, status_of, value_text}
+use Rattle.grain_commands.specs.Runs.{Reported, answer_text, engine_of, status_of, value_text}
 use Rattle.grain_commands.specs.declared.replies.Reply.{Reply}
 
 -- a fault other than want of memory is the end that the program means
@@ -47,13 +43,14 @@ pub engine_is : (e : Engine) (l : Limits) (fast strict : Bool) → e.limits ≡ 
     ≡ engine_of l fast strict
 engine_is e l fast strict limits = ap (λ (x : Limits). engine_of x fast strict) limits
 
-pub begin_is : (scope : List Entry) (cells : List Cell) (host : TableHost) (m : VmView)
-    (e : Engine) → cells ≡ [] →
-    m ≡ record { engine = e; global = record { num_operations = 0; level = 0 }; trace = [] } →
-    begin scope cells host m.global ≡ start scope host
-begin_is scope cells host m e none fresh =
-    ap (λ (x : List Cell). begin scope x host m.global) none ∙
-    ap (λ (x : VmView). begin scope [] host x.global) fresh
+-- an end under this engine and from this beginning is one under what is equal to them
+pub reported_as : (told : Bool) (p : View) (e under : Engine) (b first : Begin TableHost)
+    (r : Result Reply OutOfMemory) → e ≡ under → b ≡ first →
+    IfOk r (λ x. Reported told p e b x.status x.text) →
+    IfOk r (λ x. Reported told p under first x.status x.text)
+reported_as told p e under b first r engine begun h =
+    subst (λ (y : Begin TableHost). IfOk r (λ x. Reported told p under y x.status x.text)) begun
+    (subst (λ (y : Engine). IfOk r (λ x. Reported told p y b x.status x.text)) engine h)
 
 pub value_told : (told : Bool) (p : View) (under : Engine) (first : Begin TableHost) (v : Dynamic)
     (e : Engine) (b : Begin TableHost) (finish : Answer → Finish TableHost) (ran : ℕ)

@@ -1,22 +1,84 @@
 //! What `run` does with the bytes of its source, and `self` with those that it makes: it reads a listing,
 //! verifies what that says, and runs the program.
 
-ghost use Rattle.std.specs.Prelude.{◌<◌, ◌≤◌, Ok, IfOk, true, false};
+ghost use Rattle.std.specs.Prelude.{◌<◌, ◌≤◌, ◌≡◌, ◌≢◌, ◌++◌, [], Ok, IfOk, true, false};
+ghost use Rattle.grain_fault.specs.Problems.{problem_of};
+ghost use Rattle.grain_fault.specs.declared.faults.EvalAltResult.TheVariants as faults;
+ghost use Rattle.grain_global.specs.Engines.{with_callbacks};
+ghost use Rattle.grain_vm.specs.Machines.{begin};
 ghost use Rattle.grain_listing.specs.Reading.{reads};
 ghost use Rattle.grain_listing.specs.ListingViews.{set_up_of, IsReady};
 ghost use Rattle.grain_commands.specs.Replies.{Replies};
+ghost use Rattle.grain_commands.specs.Reports.{report_fault, told_value};
 ghost use Rattle.grain_commands.specs.Runs.{Reported, engine_of, start};
 ghost use Rattle.grain_commands.specs.SelfListings.{self_listing};
 
 use crate::replies::{Reply, fault_reply, no_listing, refused, told_reply};
 use crate::self_listings::self_listing;
+use grain_fault::EvalAltResult;
 use grain_host::TableHost;
 use grain_listing::{Listing, read};
 use grain_program::{Program, verify};
-use grain_value::{Limits, OutOfMemory, Scope, Store};
+use grain_value::{Dynamic, Limits, OutOfMemory, Scope, Store, Text};
 use grain_vm::{Engine, Steps, Vm};
 use std::alloc::Global;
 use std::sync::ledger::Ledger;
+
+/// The reply to a machine's run that ended in a value. The machine says how many operations there were.
+fn value_end(
+    alloc: Global,
+    told: bool,
+    printed: &Text,
+    value: Dynamic,
+    cells: &Store,
+    vm: Vm<'_>,
+) -> Result<Reply, OutOfMemory>
+    ensures status { IfOk result (λ r. r.status ≡ 0) }
+    ensures text { IfOk result (λ r. r.text ≡
+        told_value told printed.now cells.now value vm.entry.global.num_operations) }
+{
+    let operations = vm.into_global_state().num_operations;
+    told_reply(alloc, told, printed, &value, cells, operations)
+}
+
+/// The reply to a machine's run that ended in a fault. The machine has the trace.
+fn fault_end(
+    alloc: Global,
+    printed: &Text,
+    fault: EvalAltResult,
+    vm: Vm<'_>,
+) -> Result<Reply, OutOfMemory>
+    ensures status { IfOk result (λ r. r.status ≡ 1) }
+    ensures text { IfOk result (λ r.
+        r.text ≡ printed.now ++ report_fault (problem_of fault) vm.entry.trace) }
+    ensures memory { IfOk result (λ _. fault ≢ faults.Memory) }
+{
+    fault_reply(alloc, printed, &fault, vm.fault_trace())
+}
+
+/// Runs the program in the machine, on the scope and with the host, and reports the end.
+fn run_in<L: Ledger>(
+    alloc: Global,
+    vm: Vm<'_>,
+    program: &Program,
+    host: TableHost,
+    scope: Scope,
+    told: bool,
+    steps: &mut Steps<L>,
+) -> Result<Reply, OutOfMemory>
+    requires { 0 < vm.engine.limits.operations }
+    ensures { IfOk result (λ r. Reported told program.now (with_callbacks true vm.entry.engine)
+        (begin scope [] host vm.entry.global) r.status r.text) }
+{
+    let mut vm = vm;
+    let mut scope = scope;
+    let mut cells = Store::new(alloc);
+    let mut host = host;
+    match vm.eval_with_callbacks(alloc, &mut host, &mut cells, &mut scope, program, steps) {
+        Ok(value) => value_end(alloc, told, host.printed(), value, &cells, vm),
+        Err(fault) => fault_end(alloc, host.printed(), fault, vm),
+    }
+}
 
 /// Runs the program on the scope, with the host, and reports the end. At least one operation is
 /// allowed. `told` says whether a value's report tells how many operations there were.
@@ -38,17 +100,37 @@ fn run_program<L: Ledger>(
     let mut engine = Engine::new(alloc, limits);
     engine.fast_operators = fast_operators;
     engine.strict_properties = strict_properties;
-    let mut vm = Vm::new(alloc, &engine)?;
-    let mut scope = scope;
-    let mut cells = Store::new(alloc);
-    let mut host = host;
-    match vm.eval_with_callbacks(alloc, &mut host, &mut cells, &mut scope, program, steps) {
-        Ok(value) => {
-            let operations = vm.into_global_state().num_operations;
-            told_reply(alloc, told, host.printed(), &value, &cells, operations)
-        }
-        Err(fault) => fault_reply(alloc, host.printed(), &fault, vm.fault_trace()),
-    }
+    let vm = Vm::new(alloc, &engine)?;
+    run_in(alloc, vm, program, host, scope, told, steps)
+}
+
+/// The same with a program that is given away.
+fn run_verified<L: Ledger>(
+    alloc: Global,
+    program: Program,
+    limits: Limits,
+    fast_operators: bool,
+    strict_properties: bool,
+    host: TableHost,
+    scope: Scope,
+    told: bool,
+    steps: &mut Steps<L>,
+) -> Result<Reply, OutOfMemory>
+    requires { 0 < limits.operations }
+    ensures { IfOk result (λ r. Reported told program (engine_of limits fast_operators
+        strict_properties) (start scope host) r.status r.text) }
+{
+    run_program(
+        alloc,
+        &program,
+        limits,
+        fast_operators,
+        strict_properties,
+        host,
+        scope,
+        told,
+        steps,
+    )
 }
 
 /// Verifies what a listing says and runs it.
@@ -71,9 +153,9 @@ fn run_set_up<L: Ledger>(
     } = setup;
     match verify(alloc, parts) {
         Err(refusal) => refused(alloc, refusal),
-        Ok(program) => run_program(
+        Ok(program) => run_verified(
             alloc,
-            &program,
+            program,
             limits,
             fast_operators,
             strict_properties,

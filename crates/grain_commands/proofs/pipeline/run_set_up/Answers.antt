@@ -13,5 +13,5 @@ returns-in-Err g c =
 pub returns-in-Ok : goal.returns-in-Ok
 returns-in-Ok g c =
     let program : c.in-Ok.program ≡ view_of c.args.setup.parts = search rules in
-    let told = rw program at c.run_program.ensures in
-    answers_end c.args.told (set_up_of c.args.setup) c.run_program.result c.in-Ok.ensures.sound told
+    let told = rw program at c.run_verified.ensures in
+    answers_end c.args.told (set_up_of c.args.setup) c.run_verified.result c.in-Ok.ensures.sound told
