@@ -1,6 +1,6 @@
 //! How runs end, and whether that is as expected.
 
-ghost use Rattle.std.specs.Prelude.{◌≡◌, ◌↔◌, IsTrue, IfOk};
+ghost use Rattle.std.specs.Prelude.{◌≡◌, ◌↔◌, IsTrue, IfOk, false};
 ghost use Rattle.grain_listing.specs.Reading.{reads};
 ghost use Rattle.grain_commands.specs.Replies.{Replies};
 
@@ -33,7 +33,7 @@ pub fn reply_of<L: Ledger>(
     listing: &[u8],
     steps: &mut Steps<L>,
 ) -> Result<Reply, OutOfMemory>
-    ensures { IfOk result (λ r. Replies (reads listing.now) r.status r.text) }
+    ensures { IfOk result (λ r. Replies false (reads listing.now) r.status r.text) }
 {
     run_listing(alloc, listing, steps)
 }
