@@ -304,7 +304,7 @@ impl<H: Host> Run<H> {
     {
         match self.cells.find(cell) {
             Some(content) => {
-                quick_assigned(context, token, content, operand(&self.stacks, kept))
+                quick_assigned(context.engine, token, content, operand(&self.stacks, kept))
             }
             None => None,
         }

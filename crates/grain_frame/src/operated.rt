@@ -11,7 +11,6 @@ ghost use Rattle.grain_ops.specs.Answers.{Answers};
 ghost use Rattle.grain_frame.specs.Operated.{AssignedEntry};
 ghost use Rattle.grain_value.specs.declared.values.Dynamic.TheVariants as dynamic;
 
-use crate::contexts::Context;
 use grain_global::Engine;
 use grain_ops::{AssignAnswer, OpAnswer, assign, binary, unary};
 use grain_value::{Dynamic, Held, Scope, Store, Token};
@@ -73,17 +72,17 @@ pub fn assign_entry(
 /// are fast and it fits. It says nothing of all else, of which `assign` tells.
 #[inline(always)]
 pub fn quick_assigned(
-    context: Context<'_>,
+    engine: &Engine,
     token: Token,
     target: &Dynamic,
     value: &Dynamic,
 ) -> Option<i64>
     ensures assigned { IfSome result
-        (λ z. if_fast context.entry.engine.now.fast_operators
-        (assignment context.entry.engine.now.limits token target.now value.now) ≡ Gave (dynamic.Int z)) }
+        (λ z. if_fast engine.now.fast_operators
+        (assignment engine.now.limits token target.now value.now) ≡ Gave (dynamic.Int z)) }
     ensures integers { IfSome result (λ _. AreIntegers target.now value.now) }
 {
-    if context.fast_operators {
+    if engine.fast_operators {
         grain_ops::quick_assigned(token, target, value)
     } else {
         None
@@ -93,18 +92,18 @@ pub fn quick_assigned(
 /// The same of a target and an integer.
 #[inline(always)]
 pub fn quick_assigned_with(
-    context: Context<'_>,
+    engine: &Engine,
     token: Token,
     target: &Dynamic,
     value: i64,
 ) -> Option<i64>
     ensures assigned { IfSome result
-        (λ z. if_fast context.entry.engine.now.fast_operators
-        (assignment context.entry.engine.now.limits token target.now (dynamic.Int value))
+        (λ z. if_fast engine.now.fast_operators
+        (assignment engine.now.limits token target.now (dynamic.Int value))
         ≡ Gave (dynamic.Int z)) }
     ensures integers { IfSome result (λ _. AreIntegers target.now (dynamic.Int value)) }
 {
-    if context.fast_operators {
+    if engine.fast_operators {
         grain_ops::quick_assigned_with(token, target, value)
     } else {
         None

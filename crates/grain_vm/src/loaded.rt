@@ -136,7 +136,7 @@ fn assign_loaded<H: Host, L: Ledger>(
     if held.read_only {
         return false;
     }
-    match quick_assigned_with(context, token, &held.value, integer) {
+    match quick_assigned_with(context.engine, token, &held.value, integer) {
         Some(z) => {
             begin_behind(steps);
             run.scope.set_int(index, z);
@@ -320,7 +320,7 @@ fn operation_loaded<H: Host>(
         ≡ Some (arguments count (loaded run.now integer).stacks.operands) }
     ensures two { IsGiven result → count ≡ 2 }
 {
-    if count != 2 || !context.fast_operators {
+    if count != 2 || !context.engine.fast_operators {
         return Quick::None;
     }
     let token = context.program.token(u32::from(token));

@@ -127,7 +127,6 @@ impl<'e> Machine<'e> {
         let context = Context {
             engine: &engine,
             program,
-            fast_operators: engine.fast_operators,
         };
         let mut run = Run {
             alloc,

@@ -137,7 +137,7 @@ pub(crate) fn quick_assign<H: Host, L: Ledger>(
     if held.read_only {
         return false;
     }
-    match quick_assigned(context, token, &held.value, &run.stacks.top().value) {
+    match quick_assigned(context.engine, token, &held.value, &run.stacks.top().value) {
         Some(z) => {
             run.scope.set_int(index, z);
             run.stacks.drop_top();
@@ -288,7 +288,7 @@ fn quick_operation<H: Host>(run: &Run<H>, context: Context<'_>, token: u16, coun
         ≡ Some (arguments count run.now.stacks.operands) }
     ensures two { IsGiven result → count ≡ 2 }
 {
-    if count != 2 || !context.fast_operators {
+    if count != 2 || !context.engine.fast_operators {
         return Quick::None;
     }
     let token = context.program.token(u32::from(token));

@@ -264,7 +264,7 @@ fn pair_operation<H: Host>(
 {
     // Only the contract names it.
     let _run = run;
-    if count != 2 || !context.fast_operators {
+    if count != 2 || !context.engine.fast_operators {
         return Quick::None;
     }
     let token = context.program.token(u32::from(token));

@@ -1,4 +1,4 @@
-use Rattle.std.proofs.Common.{◌≡◌, ◌≤◌, ◌++◌, ◌∷◌, [], List, ◌∙◌, true, sym, ap, length, length-append, arith, rules, w64, FitsSigned}
+use Rattle.std.proofs.Common.{◌≡◌, ◌≤◌, ◌++◌, ◌∷◌, [], List, ◌∙◌, true, ap, length, length-append, arith, rules, w64, FitsSigned}
 use Rattle.std.proofs.lemmas.Int.{to_z-of_z}
 use Rattle.grain_value.specs.declared.values.Dynamic.TheVariants as dynamic
 use Rattle.grain_value.specs.declared.values.Held.{Held}
@@ -12,9 +12,7 @@ pub returns-clause-agrees : goal.returns-clause-agrees
 returns-clause-agrees g c =
     let p = c.args.context.program.now in
     let two : c.args.count ≡ 2 = search rules in
-    let flag : c.args.context.fast_operators ≡ true = search rules in
-    let fast : c.args.context.engine.now.fast_operators ≡ true =
-    sym c.args.context.same_flag ∙ flag in
+    let fast : c.args.context.engine.now.fast_operators ≡ true = search rules in
     let token : c.token-token.result ≡ token_of p c.args.token =
     c.token-token.ensures ∙ ap (token_of p) c.from.ensures in
     let z = c.args.integer in

@@ -1,4 +1,4 @@
-use Rattle.std.proofs.Common.{◌≡◌, ◌≤◌, ◌∙◌, true, sym, ap, length, arith, rules}
+use Rattle.std.proofs.Common.{◌≡◌, ◌≤◌, ◌∙◌, true, ap, length, arith, rules}
 use Rattle.grain_program.specs.View.{token_of}
 use Rattle.grain_vm.proofs.Pairs.{arguments_two, two_read}
 use Rattle.grain_vm.proofs.quick.quick_operation.Goals as goal
@@ -7,9 +7,7 @@ pub returns-clause-agrees : goal.returns-clause-agrees
 returns-clause-agrees g c =
     let p = c.args.context.program.now in
     let two : c.args.count ≡ 2 = search rules in
-    let flag : c.args.context.fast_operators ≡ true = search rules in
-    let fast : c.args.context.engine.now.fast_operators ≡ true =
-    sym c.args.context.same_flag ∙ flag in
+    let fast : c.args.context.engine.now.fast_operators ≡ true = search rules in
     let token : c.token-token.result ≡ token_of p c.args.token =
     c.token-token.ensures ∙ ap (token_of p) c.from.ensures in
     let some : 2 ≤ length c.args.run.now.stacks.operands =

@@ -14,9 +14,7 @@ pub returns-clause-agrees : goal.returns-clause-agrees
 returns-clause-agrees g c =
     let p = c.args.context.program.now in
     let two : c.args.count ≡ 2 = search rules in
-    let flag : c.args.context.fast_operators ≡ true = search rules in
-    let fast : c.args.context.engine.now.fast_operators ≡ true =
-    sym c.args.context.same_flag ∙ flag in
+    let fast : c.args.context.engine.now.fast_operators ≡ true = search rules in
     let token : c.token-token.result ≡ token_of p c.args.token =
     c.token-token.ensures ∙ ap (token_of p) c.from.ensures in
     let x = c.args.first in
