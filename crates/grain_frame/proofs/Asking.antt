@@ -22,7 +22,7 @@ use Rattle.grain_means.specs.lemmas.Stretches.{compose, same}
 use Rattle.grain_frame.specs.Abstraction.{KeepsFrame, abstraction, frame_in, moment, native_continuation}
 use Rattle.grain_frame.specs.Receivers.{KeepsBound}
 use Rattle.grain_frame.specs.Targets.{CanAssign, CanBeLent, HoldsWritable, assigned_name, content_at, home_of, kept_operand, receiver_at}
-use Rattle.grain_frame.specs.Waiting.{CanHold, GoesOn, ImplementsOrWaits, IsKept, KeepsLent, LandsOrWaits, Lends, asking, fault_rest, performed_continuation, value_rest}
+use Rattle.grain_frame.specs.Waiting.{CanHold, GoesOn, ImplementsOrWaits, IsKept, KeepsLent, LandsOrWaits, Lends, asking, fault_rest, performed_continuation, rest_of, value_rest}
 use Rattle.grain_frame.specs.declared.activations.Activation.{Activation}
 use Rattle.grain_frame.specs.declared.assignments.Assignment.{Assignment}
 use Rattle.grain_frame.specs.declared.native_calls.Asked.{Asked}
@@ -36,6 +36,8 @@ use Rattle.grain_frame.specs.declared.waiting.Loan.TheVariants as have
 use Rattle.grain_frame.specs.declared.waiting.Performed.{Performed}
 use Rattle.grain_frame.specs.declared.waiting.Performed.TheVariants as performed
 use Rattle.grain_frame.specs.declared.waiting.Rest.TheVariants as rest
+use Rattle.grain_frame.specs.declared.waiting.Waiting.{Waiting}
+use Rattle.grain_frame.specs.lemmas.Awaited.{asks_awaited, awaits, kept_awaited}
 use Rattle.grain_frame.specs.lemmas.Bound.{reading}
 use Rattle.grain_frame.proofs.Holding.{content_beside, goes_after}
 use Rattle.grain_frame.proofs.Homes.{failed_is}
@@ -53,15 +55,17 @@ module _ {H : Type 0} (law : Law H) (p : View) (engine : Engine) (f : Activation
       LandsOrWaits (setup law p engine) (moment f s n host) (moment f' s' n' host') ts takes gives hs r
   lands_before f' s' n' host' ts takes gives hs (Ok (performed.Leads q)) le es l =
       later_lands engine f f' s t s' ts takes gives hs (Ok q) le es l
-  lands_before f' s' n' host' ts takes gives hs (Ok (performed.Waits w)) le es l = (
+  lands_before f' s' n' host' ts takes gives hs (Ok performed.Waits) le es l = (
     l.0,
     l.1,
     l.2,
-    l.3 ∙ ap (λ (q : StacksView). q.operands) es,
+    l.3,
     l.4,
-    l.5 ∙ ap (λ (q : StacksView). q.handlers) es,
+    l.5 ∙ ap (λ (q : StacksView). q.operands) es,
     l.6,
-    l.7 ∙ ap (λ (q : StacksView). q.cursors) es,
+    l.7 ∙ ap (λ (q : StacksView). q.handlers) es,
+    l.8,
+    l.9 ∙ ap (λ (q : StacksView). q.cursors) es,
   )
   lands_before f' s' n' host' ts takes gives hs (Err e) le es l = tt
 
@@ -192,78 +196,118 @@ module _ {H : Type 0} (law : Law H) (p : View) (engine : Engine) (f : Activation
       (λ place. Some (receiver_at a.target place (read_write (content_at t a.target))))
       (frame_in f s) (λ m place v w. value_rest (rest.Assign a) (frame_in f s) m place v w)
       (λ m place x w. fault_rest g (rest.Assign a) (frame_in f s) m place x w)) →
+      (b : Run H) (q : Performed) →
+      b ≡ record end { waiting = Some (record { asked = c; lent = l; rest = rest.Assign a }) } →
+      q ≡ performed.Waits →
       ImplementsOrWaits (setup law p engine) (moment f s n host) rule (a.next ∷ []) 1 0
-      s.stacks.handlers
-      (Ok (performed.Waits (record { asked = c; lent = l; rest = rest.Assign a })))
-      (moment f end k mid)
-  lent_waits {rule} a g c l end plain can again writable kept does = record {
-    held = g;
-    plain = plain;
-    same = compose does (same second) tt;
-    kept = lent_kept law p engine f s end n k host mid scope end.cells bs end_is long this before
-        can.inside;
-    lands = (
-      (goes_end, refl, refl, refl),
-      kept_lends t a l end writable kept,
-      kept_there t a.target l end writable kept,
-      ap (λ (v : StacksView). v.operands) same_stacks,
-      ap (λ (v : StacksView). v.handlers) same_stacks,
-      ap (λ (v : StacksView). v.handlers) same_stacks,
-      refl,
-      ap (λ (v : StacksView). v.cursors) same_stacks,
-    );
-    before = before;
-  } where
-    by_cells : end ≡ record t { cells = end.cells }
-    by_cells = kept_cells t a.target l end kept
+      s.stacks.handlers (Ok q) (moment f b k mid)
+  lent_waits {rule} a g c l end plain can again writable kept does b q is waits =
+      rw (is, waits) (record {
+        held = g;
+        plain = plain;
+        same = compose does (same awaited) tt;
+        kept = kept_end;
+        lands = (
+          w,
+          refl,
+          awaits end (Some w) p f (rest.Assign a) 1 0 (a.next ∷ []) (goes_end, refl, refl, refl),
+          kept_lends t a l end writable kept,
+          kept_awaited end (Some w) l (kept_there t a.target l end writable kept),
+          ap (λ (v : StacksView). v.operands) same_stacks,
+          ap (λ (v : StacksView). v.handlers) same_stacks,
+          ap (λ (v : StacksView). v.handlers) same_stacks,
+          refl,
+          ap (λ (v : StacksView). v.cursors) same_stacks,
+        );
+        before = before;
+      }) where
+        w : Waiting
+        w = record { asked = c; lent = l; rest = rest.Assign a }
 
-    end_is : end ≡ record s { scope = scope; cells = end.cells; receivers = bs }
-    end_is = by_cells ∙ ap (λ (q : Run H). record q { cells = end.cells }) run
+        by_cells : end ≡ record t { cells = end.cells }
+        by_cells = kept_cells t a.target l end kept
 
-    same_stacks : end.stacks ≡ s.stacks
-    same_stacks = ap (λ (q : Run H). q.stacks) end_is
+        end_is : end ≡ record s { scope = scope; cells = end.cells; receivers = bs }
+        end_is = by_cells ∙ ap (λ (q : Run H). record q { cells = end.cells }) run
 
-    goes_t : GoesOn p f t a
-    goes_t = goes_after p f s t a scope cells bs run long again can
+        same_stacks : end.stacks ≡ s.stacks
+        same_stacks = ap (λ (q : Run H). q.stacks) end_is
 
-    goes_end : GoesOn p f end a
-    goes_end = record {
-      inside = omega (arith, goes_t.inside, ap (λ (q : Run H). length q.scope) by_cells);
-      target = kept_holds t a.target l end goes_t.target kept;
-      operand = omega (
-        arith,
-        can.operand,
-        ap (λ (v : StacksView). length v.operands) same_stacks,
-      );
-      ahead = can.ahead;
-      first = can.first;
-      second = can.second;
-      variable = can.variable;
-    }
+        goes_t : GoesOn p f t a
+        goes_t = goes_after p f s t a scope cells bs run long again can
 
-    second : SimulatesExactly (setup law p engine) (abstraction t k mid)
-        (native_continuation (Ok (native_end.Asks c))
-        (λ place. Some (receiver_at a.target place (read_write (content_at t a.target))))
-        (frame_in f s) (λ m place v w. value_rest (rest.Assign a) (frame_in f s) m place v w)
-        (λ m place x w. fault_rest g (rest.Assign a) (frame_in f s) m place x w)) false
-        (abstraction end k mid)
-        (performed_continuation g
-        (Ok (performed.Waits (record { asked = c; lent = l; rest = rest.Assign a }))) end
-        (frame_in f end))
-    second =
-        subst (λ (v : StacksView). SimulatesExactly (setup law p engine) (abstraction t k mid)
-        (native_continuation (Ok (native_end.Asks c))
-        (λ place. Some (receiver_at a.target place (read_write (content_at t a.target))))
-        (frame_in f s) (λ m place v w. value_rest (rest.Assign a) (frame_in f s) m place v w)
-        (λ m place x w. fault_rest g (rest.Assign a) (frame_in f s) m place x w)) false
-        (abstraction end k mid)
-        (performed_continuation g
-        (Ok (performed.Waits (record { asked = c; lent = l; rest = rest.Assign a }))) end
-        (frame_in f (record end { stacks = v })))) (sym same_stacks)
-        (keeps (setup law p engine) t k mid c (frame_in f s)
-        (λ m place v w. value_rest (rest.Assign a) (frame_in f s) m place v w)
-        (λ m place x w. fault_rest g (rest.Assign a) (frame_in f s) m place x w) a.target l end
-        writable kept)
+        goes_end : GoesOn p f end a
+        goes_end = record {
+          inside = omega (arith, goes_t.inside, ap (λ (q : Run H). length q.scope) by_cells);
+          target = kept_holds t a.target l end goes_t.target kept;
+          operand = omega (
+            arith,
+            can.operand,
+            ap (λ (v : StacksView). length v.operands) same_stacks,
+          );
+          ahead = can.ahead;
+          first = can.first;
+          second = can.second;
+          variable = can.variable;
+        }
+
+        stays : KeepsFrame f s f end
+        stays = lent_kept law p engine f s end n k host mid scope end.cells bs end_is long this before
+            can.inside
+
+        kept_end : KeepsFrame f s f (record end { waiting = Some w })
+        kept_end = record {
+          chunk = refl;
+          base = refl;
+          scope = stays.scope;
+          room = stays.room;
+          noted = stays.noted;
+          outer = stays.outer;
+          saved = stays.saved;
+          level = stays.level;
+          this = stays.this;
+          later = stays.later;
+        }
+
+        second : SimulatesExactly (setup law p engine) (abstraction t k mid)
+            (native_continuation (Ok (native_end.Asks c))
+            (λ place. Some (receiver_at a.target place (read_write (content_at t a.target))))
+            (frame_in f s) (λ m place v w. value_rest (rest.Assign a) (frame_in f s) m place v w)
+            (λ m place x w. fault_rest g (rest.Assign a) (frame_in f s) m place x w)) false
+            (abstraction end k mid)
+            (λ m place v. asking (home_of to.This) end c l (frame_in f end)
+            (rest_of g (rest.Assign a) (frame_in f end)) m place v)
+        second =
+            subst (λ (v : StacksView). SimulatesExactly (setup law p engine) (abstraction t k mid)
+            (native_continuation (Ok (native_end.Asks c))
+            (λ place. Some (receiver_at a.target place (read_write (content_at t a.target))))
+            (frame_in f s) (λ m place v w. value_rest (rest.Assign a) (frame_in f s) m place v w)
+            (λ m place x w. fault_rest g (rest.Assign a) (frame_in f s) m place x w)) false
+            (abstraction end k mid)
+            (λ m place u. asking (home_of to.This) end c l (frame_in f (record end { stacks = v }))
+            (rest_of g (rest.Assign a) (frame_in f (record end { stacks = v }))) m place u))
+            (sym same_stacks)
+            (keeps (setup law p engine) t k mid c (frame_in f s)
+            (λ m place v w. value_rest (rest.Assign a) (frame_in f s) m place v w)
+            (λ m place x w. fault_rest g (rest.Assign a) (frame_in f s) m place x w) a.target l end
+            writable kept)
+
+        awaited : SimulatesExactly (setup law p engine) (abstraction t k mid)
+            (native_continuation (Ok (native_end.Asks c))
+            (λ place. Some (receiver_at a.target place (read_write (content_at t a.target))))
+            (frame_in f s) (λ m place v w. value_rest (rest.Assign a) (frame_in f s) m place v w)
+            (λ m place x w. fault_rest g (rest.Assign a) (frame_in f s) m place x w)) false
+            (abstraction (record end { waiting = Some w }) k mid)
+            (performed_continuation g (Ok performed.Waits) (record end { waiting = Some w })
+            (frame_in f (record end { waiting = Some w })))
+        awaited = record {
+          this = second.this;
+          order = second.order;
+          equal = λ stop clear halts u place. second.equal stop clear halts u place
+              ∙ asks_awaited end (Some w) (home_of to.This) c l (frame_in f end)
+              (rest_of g (rest.Assign a) (frame_in f end)) (stopped (setup law p engine) stop) place
+              (world (abstraction end k mid) u);
+        }
 
 -- the fault of an op-assignment is raised, at a mark, and passed over: its trace is gone
 pub passed_over : {H : Type 0} (law : Law H) (p : View) (engine : Engine) (f : Activation)

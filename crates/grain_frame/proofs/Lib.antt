@@ -1,3 +1,4 @@
+mod Spares
 mod Newest
 mod AssignedEntries
 mod Flattening

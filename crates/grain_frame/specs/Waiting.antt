@@ -40,6 +40,7 @@ use Rattle.grain_frame.specs.declared.waiting.Performed.{Performed}
 use Rattle.grain_frame.specs.declared.waiting.Performed.TheVariants as performed
 use Rattle.grain_frame.specs.declared.waiting.Rest.{Rest}
 use Rattle.grain_frame.specs.declared.waiting.Resumed.{Resumed}
+use Rattle.grain_frame.specs.declared.waiting.Waiting.{Waiting}
 use Rattle.grain_frame.specs.declared.waiting.Resumed.TheVariants as went
 use Rattle.grain_frame.specs.declared.runs.Progress.{Progress}
 use Rattle.grain_frame.specs.declared.waiting.Rest.TheVariants as rest
@@ -104,13 +105,21 @@ rest_of g r f m place a w =
     native_over (leave_by_fault m (f place) NoMemory) (value_rest r f m place)
     (fault_rest g r f m place) a w
 
--- where an instruction led, or what its native asks for; what is lent stands apart nowhere
+-- what the native of an instruction that waits asks for, and what then follows; what is lent stands
+-- apart nowhere. In a run that has no such instruction nothing is said by it.
+abbrev pub waits_continuation : {H : Type 0} → Held → Option Waiting → Run H →
+    (Option Place → Frame) → Computation H
+waits_continuation g (Some w) s f m place v =
+    asking (home_of to.This) s w.asked w.lent f (rest_of g w.rest f) m place v
+waits_continuation g None s f m place v = leave_by_fault m (f place) NoMemory v
+
+-- where an instruction led, or what its native asks for, as the run has it
 abbrev pub performed_continuation : {H : Type 0} → Held → Result Performed OutOfMemory → Run H →
     (Option Place → Frame) → Computation H
 performed_continuation g (Ok (performed.Leads p)) s f m place w =
     continuation (Ok p) s.fault f m place w
-performed_continuation g (Ok (performed.Waits w)) s f m place v =
-    asking (home_of to.This) s w.asked w.lent f (rest_of g w.rest f) m place v
+performed_continuation g (Ok performed.Waits) s f m place v =
+    waits_continuation g s.waiting s f m place v
 performed_continuation g (Err e) s f m place w = leave_by_fault m (f place) NoMemory w
 
 -- the same where a native is over, or asks for a call: what follows is this
@@ -212,8 +221,9 @@ abbrev pub LandsOrWaits : {H : Type 0} → Setup H → Moment H → Moment H →
     (takes gives : ℕ) → List Handler → Result Performed OutOfMemory → Type 0
 LandsOrWaits m a b targets takes gives handlers (Ok (performed.Leads p)) =
     ContinuesAt m.engine a.run a.frame b.run b.frame targets takes gives handlers (Ok p)
-LandsOrWaits m a b targets takes gives handlers (Ok (performed.Waits w)) =
-    LeadsTo m.program b.frame b.run w.rest takes gives targets × Lends w.rest w.lent
+LandsOrWaits m a b targets takes gives handlers (Ok performed.Waits) =
+    (w : Waiting) × (b.run.waiting ≡ Some w)
+    × LeadsTo m.program b.frame b.run w.rest takes gives targets × Lends w.rest w.lent
     × IsKept b.run w.lent × (b.run.stacks.operands ≡ a.run.stacks.operands)
     × (b.run.stacks.handlers ≡ handlers) × (b.run.stacks.handlers ≡ a.run.stacks.handlers)
     × (b.frame ≡ a.frame) × (b.run.stacks.cursors ≡ a.run.stacks.cursors)

@@ -110,7 +110,7 @@ impl<H: Host> Run<H> {
             NativeEnd::Fault(fault) => {
                 Performed::of(self.showing_failed(context, steps, frame, type_name, fault, next))
             }
-            NativeEnd::Asks(asked) => Ok(Performed::Waits(Waiting {
+            NativeEnd::Asks(asked) => Ok(self.wait(Waiting {
                 asked,
                 lent: Loan::Nothing,
                 rest: Rest::Show { type_name, next },

@@ -33,7 +33,7 @@ pub use native_calls::{Arguments, Asked, NativeEnd, Sought, served};
 pub use operated::{quick_assigned, quick_assigned_with};
 pub use pointers::Under;
 pub use receivers::Receivers;
-pub use runs::{Progress, Run};
+pub use runs::{Progress, Run, Stopped};
 pub use saved::SavedScopes;
 pub use transfers::agrees;
 pub use waiting::{Loan, Performed, Rest, Resumed, Waiting, put_in_cell};

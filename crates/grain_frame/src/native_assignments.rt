@@ -223,7 +223,7 @@ impl<H: Host> Run<H> {
             }
             NativeEnd::Asks(asked) => {
                 let lent = self.keep_lent(target);
-                Ok(Performed::Waits(Waiting {
+                Ok(self.wait(Waiting {
                     asked,
                     lent,
                     rest: Rest::Assign(assignment),

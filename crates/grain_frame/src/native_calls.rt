@@ -282,7 +282,7 @@ impl<H: Host> Run<H> {
                 Ok(Performed::Leads(self.push_on(steps, frame, value, next)))
             }
             NativeEnd::Fault(fault) => Ok(Performed::Leads(self.raise(steps, fault))),
-            NativeEnd::Asks(asked) => Ok(Performed::Waits(Waiting {
+            NativeEnd::Asks(asked) => Ok(self.wait(Waiting {
                 asked,
                 lent: Loan::Nothing,
                 rest: Rest::Push { count, next },

@@ -55,7 +55,7 @@ impl<H: Host> Run<H> {
             (λ m place w. rest_of h rest (frame_in frame.old self.old) m place (answer_of outcome)
             w) targets takes gives self.old.stacks.handlers result
             (moment frame.new self.new steps.new host.new) }
-        ensures less { WaitsLess rest result }
+        ensures less { WaitsLess rest result self.new.waiting }
     {
         match outcome {
             Ok(value) => Performed::of(self.value_came(context, steps, frame, rest, value)),
@@ -133,7 +133,7 @@ impl<H: Host> Run<H> {
             assignment.next (frame_in frame.old self.old place) (problem_of fault) w)
             (assignment.next ∷ []) 1 0 self.old.stacks.handlers result
             (moment frame.new self.new steps.new host.new) }
-        ensures less { WaitsLess (rest.Assign assignment) result }
+        ensures less { WaitsLess (rest.Assign assignment) result self.new.waiting }
     {
         let name = context.program.name(assignment.operator.op_assign_name);
         if says_missing(name, &fault) {
@@ -168,7 +168,7 @@ impl<H: Host> Run<H> {
             assignment.next (frame_in frame.old self.old place) w)
             (assignment.next ∷ []) 1 0 self.old.stacks.handlers result
             (moment frame.new self.new steps.new host.new) }
-        ensures less { WaitsLess (rest.Assign assignment) result }
+        ensures less { WaitsLess (rest.Assign assignment) result self.new.waiting }
     {
         let mut arguments = Arguments::new(self.alloc);
         self.push_content(&mut arguments, assignment.target)?;
@@ -182,7 +182,7 @@ impl<H: Host> Run<H> {
                 Performed::of(self.assign_answer(context, steps, frame, &assignment, value))
             }
             NativeEnd::Fault(fault) => Ok(Performed::Leads(self.raise(steps, fault))),
-            NativeEnd::Asks(asked) => Ok(Performed::Waits(Waiting {
+            NativeEnd::Asks(asked) => Ok(self.wait(Waiting {
                 asked,
                 lent: Loan::Nothing,
                 rest: Rest::Operate(assignment),

@@ -3,8 +3,10 @@
 ghost use Rattle.std.specs.Prelude.{◌≡◌, ◌<◌, ◌+◌, nat_lt, true, if◌then◌else◌};
 ghost use Rattle.grain_fault.specs.declared.faults.EvalAltResult.TheVariants as fault;
 
+use crate::activations::Activation;
 use crate::receivers::Receivers;
 use crate::saved::SavedScopes;
+use crate::waiting::Waiting;
 use grain_fault::EvalAltResult;
 use grain_global::{Engine, Steps};
 use grain_host::Host;
@@ -17,7 +19,8 @@ use std::sync::ledger::Ledger;
 
 /// What a run has, but for its frame: where it takes memory from, the stacks, the scope of the
 /// running frame and those of the frames that wait for it, the cells, the operations and the level,
-/// the fault that was raised in a frame, until it is taken up, and the `this` of each frame that has one.
+/// the fault that was raised in a frame, until it is taken up, and where that frame stopped, the `this`
+/// of each frame that has one, and an instruction that waits for a native, until that is gone on with.
 /// The host, of type `H`, is lent to those functions alone that reach it.
 #[derive(Drop)]
 pub struct Run<H> {
@@ -30,7 +33,20 @@ pub struct Run<H> {
     pub level: usize,
     pub fault: EvalAltResult,
     pub receivers: Receivers,
+    pub stopped: Stopped,
+    pub waiting: Option<Waiting>,
     pub host: PhantomData<H>,
+}
+
+/// Where a frame stopped.
+#[derive(Clone, Copy, Debug, PartialEq, Eq)]
+pub struct Stopped {
+    /// The address of the instruction.
+    pub address: usize,
+    /// The frame's floor.
+    pub floor: usize,
+    /// The slot of the step that is blamed, if one is.
+    pub slot: Option<u32>,
 }
 
 /// Where an instruction leads: on in its frame, or out of it. A frame's value is its last operand,
@@ -81,6 +97,24 @@ impl<H: Host> Run<H> {
     {
         steps.mark();
         self.raise_unmarked(fault)
+    }
+
+    /// Notes where the frame stopped in which a fault was raised.
+    #[inline(always)]
+    pub fn note_stop(&mut self, frame: &Activation)
+        ensures { self.new ≡ record self.old {
+          stopped = record {
+            address = frame.now.address;
+            floor = frame.now.floor;
+            slot = frame.now.slot;
+          };
+        } }
+    {
+        self.stopped = Stopped {
+            address: frame.address,
+            floor: frame.floor,
+            slot: frame.slot,
+        };
     }
 
     /// Takes the fault that lies in the run. `Memory` is left in its place.

@@ -17,7 +17,7 @@ pub struct SavedScopes {
 }
 
 impl Model for SavedScopes {
-    ghost use Rattle.std.specs.Prelude.{List, ◌≤◌, length, take};
+    ghost use Rattle.std.specs.Prelude.{List, [], ◌≡◌, ◌≤◌, All, drop, length, take};
     ghost use Rattle.grain_value.specs.declared.scopes.Entry.{Entry};
     ghost use Rattle.std.specs.Coded.{codes};
     ghost use Rattle.grain_value.specs.laws.TreeCode.{coded_tree};
@@ -28,7 +28,9 @@ impl Model for SavedScopes {
 
     ghost view = { λ s. take s.saved s.scopes.items };
 
-    ghost invariant = { λ s. s.saved ≤ length s.scopes.items };
+    // the scopes after those of the frames that wait are empty
+    ghost invariant = { λ s. (s.saved ≤ length s.scopes.items)
+        × All (λ (scope : List Entry). scope ≡ []) (drop s.saved s.scopes.items) };
 }
 
 impl SavedScopes {
@@ -52,10 +54,20 @@ impl SavedScopes {
     {
         if self.saved < self.scopes.len() {
             mem::swap(&mut self.scopes[self.saved], scope);
-            scope.rewind(0);
             self.saved += 1;
             return Ok(());
         }
+        self.save_in_new_place(scope)
+    }
+
+    // The same where there is no place that was left.
+    #[cold]
+    #[inline(never)]
+    fn save_in_new_place(&mut self, scope: &mut Scope) -> Result<(), OutOfMemory>
+        ensures saved { self.new ≡ (if is_ok result then self.old ++ scope.old ∷ [] else self.old) }
+        ensures scope { scope.new ≡ (if is_ok result then [] else scope.old) }
+    {
+        self.scopes.truncate(self.saved);
         let waiting = mem::replace(scope, Scope::new(self.alloc));
         match self.scopes.push(waiting) {
             Ok(()) => {

@@ -15,6 +15,7 @@ use grain_global::Steps;
 use grain_host::{Args, Host, HostAnswer, HostFault};
 use grain_value::{Array, Dynamic, Held, OutOfMemory, Store, Text};
 use std::alloc::Global;
+use std::mem;
 use std::sync::ledger::Ledger;
 
 /// What an instruction does once the native is over that it called.
@@ -67,13 +68,13 @@ pub struct Waiting {
     pub rest: Rest,
 }
 
-/// What came of an instruction.
-#[derive(Drop)]
+/// What came of an instruction. What waits lies in the run, so that nothing large is moved.
+#[derive(Clone, Copy, Debug, PartialEq, Eq)]
 pub enum Performed {
     /// It is done, and leads there.
     Leads(Progress),
-    /// It waits for a native.
-    Waits(Waiting),
+    /// It waits for a native. How it goes on lies in the run.
+    Waits,
 }
 
 impl Performed {
@@ -97,6 +98,24 @@ pub enum Resumed {
 }
 
 impl<H: Host> Run<H> {
+    // An instruction waits for a native.
+    #[cold]
+    pub(crate) fn wait(&mut self, waiting: Waiting) -> Performed
+        ensures waits { result ≡ Performed.Waits }
+        ensures after { self.new ≡ record self.old { waiting = Some waiting } }
+    {
+        self.waiting = Some(waiting);
+        Performed::Waits
+    }
+
+    /// Takes the instruction that waits for a native, if one does.
+    pub fn take_waiting(&mut self) -> Option<Waiting>
+        ensures value { result ≡ self.old.waiting }
+        ensures after { self.new ≡ record self.old { waiting = None } }
+    {
+        mem::replace(&mut self.waiting, None)
+    }
+
     // What a native has that was lent what the target holds, and that asks for a call. A cell is lent
     // until the native is over.
     pub(crate) fn keep_lent(&mut self, target: Target) -> Loan

@@ -20,6 +20,7 @@ use crate::stop_lines::StopLines;
 use crate::table_natives::{self, key_of, perform};
 use grain_value::{Dynamic, Kinds, List, Native, OutOfMemory, Text};
 use std::alloc::Global;
+use std::boxed::Box;
 
 // What comes of a step: no further one can be counted, or no further token given; or the step of this
 // number is to fail; or it is done.
@@ -217,8 +218,8 @@ impl Host for TableHost {
     fn progress(&mut self, alloc: Global, count: u64) -> ProgressAnswer {
         match self.stops.token(count) {
             None => ProgressAnswer::GoOn,
-            Some(value) => match value.copy(alloc) {
-                Ok(value) => ProgressAnswer::Stop(value),
+            Some(value) => match boxed(alloc, value) {
+                Ok(value) => ProgressAnswer::Stop(Box::into_inner(value)),
                 Err(OutOfMemory) => ProgressAnswer::Memory,
             },
         }
@@ -232,4 +233,14 @@ impl Host for TableHost {
     {
         self.stops.vouch();
     }
+}
+
+// A copy of the value, in a box: so that a host that ends no run there clears no room for one.
+#[cold]
+#[inline(never)]
+fn boxed(alloc: Global, value: &Dynamic) -> Result<Box<Dynamic>, OutOfMemory>
+    ensures { IfOk result (λ copy. copy.value ≡ value.now) }
+{
+    let copy = value.copy(alloc)?;
+    Ok(Box::new(alloc, copy)?)
 }

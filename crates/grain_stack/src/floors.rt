@@ -61,9 +61,12 @@ impl Floors {
         ensures { self.new ≡ (if is_ok result then self.old ++ floor ∷ [] else self.old) }
     {
         if self.height == self.floors.len() {
-            return self.grow(floor);
+            return self.grow(floor.bottom, floor.room, floor.noted);
         }
-        self.floors[self.height] = floor;
+        let place = &mut self.floors[self.height];
+        place.bottom = floor.bottom;
+        place.room = floor.room;
+        place.noted = floor.noted;
         self.height += 1;
         Ok(())
     }
@@ -71,11 +74,17 @@ impl Floors {
     // The same where there is no place that was left.
     #[cold]
     #[inline(never)]
-    fn grow(&mut self, floor: Floor) -> Result<(), OutOfMemory>
-        ensures { self.new ≡ (if is_ok result then self.old ++ floor ∷ [] else self.old) }
+    fn grow(&mut self, bottom: usize, room: usize, noted: bool) -> Result<(), OutOfMemory>
+        ensures { self.new ≡ (if is_ok result
+            then self.old ++ record { bottom = bottom; room = room; noted = noted } ∷ []
+            else self.old) }
     {
         self.floors.truncate(self.height);
-        self.floors.push(floor)?;
+        self.floors.push(Floor {
+            bottom,
+            room,
+            noted,
+        })?;
         self.height += 1;
         Ok(())
     }

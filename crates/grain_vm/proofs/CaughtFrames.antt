@@ -267,7 +267,9 @@ pub stopped_at : {H : Type 0} {m : Setup H} {old : LocalState H} {start : Comput
     f.base ≡ base → Simulates m old start false new (λ k place w.
     offered k (frame_in f s place) (problem_of s.fault) w) →
     Simulates m old start false new
-    (stop_continuation (Ok (stop.Fault f.address f.floor f.slot)) c base s)
+    (stop_continuation (Ok stop.Fault) c base (record s {
+      stopped = record { address = f.address; floor = f.floor; slot = f.slot };
+    }))
 stopped_at c base f s ec eb h = rw (← ec, ← eb) h
 
 -- how a frame stopped

@@ -56,6 +56,7 @@ mod LentNatives
 mod OnNatives
 mod ForCells
 mod Waited
+mod Awaiting
 mod WaitsOn
 mod WaitsAhead
 mod AskedOn

@@ -35,10 +35,11 @@ use Rattle.grain_frame.specs.declared.waiting.Waiting.{Waiting}
 use Rattle.grain_frame.specs.lemmas.Arms.{taken_back}
 use Rattle.grain_frame.specs.lemmas.Bound.{as_bound, bound_as}
 use Rattle.grain_frame.specs.lemmas.Failing.{native_stops, wants_memory}
-use Rattle.grain_vm.specs.Asks.{IsWaiting}
+use Rattle.grain_vm.specs.Asks.{Awaits}
 use Rattle.grain_vm.specs.Finding.{Finds}
 use Rattle.grain_vm.specs.Methods.{NoneAbove}
 use Rattle.grain_vm.specs.declared.finding.Found.{Found}
+use Rattle.grain_vm.proofs.Awaiting.{waits_at}
 use Rattle.grain_vm.proofs.Turns.{kept_bound, none_on}
 
 -- ---- an instruction that waits, and then goes on
@@ -95,38 +96,42 @@ lands_through engine s t s' f g f' ts takes gives hs (Ok progress.Failed) later 
 lands_through engine s t s' f g f' ts takes gives hs (Err e) later same ops become stay cursors l = tt
 
 module _ {H : Type 0} {m : Setup H} {a b : Moment H} {rule : Computation H} {ts : List ℕ}
-    {takes gives : ℕ} {hs : List Handler} (w : Waiting)
-    (waits : ImplementsOrWaits m a rule ts takes gives hs (Ok (performed.Waits w)) b) where
+    {takes gives : ℕ} {hs : List Handler}
+    (waits : ImplementsOrWaits m a rule ts takes gives hs (Ok performed.Waits) b) where
   -- it can go on
-  pub is_waiting : IsWaiting m.program b.frame b.run w
-  is_waiting = record {
-    takes = takes;
-    gives = gives;
-    targets = ts;
-    leads = waits.lands.0;
-    lends = waits.lands.1;
-    kept = waits.lands.2;
-  }
+  pub is_waiting : Awaits m.program b.frame b.run
+  is_waiting = (
+    waits.lands.0,
+    waits.lands.1,
+    record {
+      takes = takes;
+      gives = gives;
+      targets = ts;
+      leads = waits.lands.2;
+      lends = waits.lands.3;
+      kept = waits.lands.4;
+    },
+  )
 
   pub waits_unbound : NoneAbove a.run.level a.run.receivers → NoneAbove b.run.level b.run.receivers
   waits_unbound none = none_on a.run.receivers b.run.receivers waits.kept.level waits.kept.this none
 
   -- and it went on, until it was done
   pub waited : {c : Moment H} (r : Result Progress OutOfMemory) →
-      ((h : Held) (takes gives : ℕ) (targets : List ℕ) → h.read_only ≡ false →
-      LeadsTo m.program b.frame b.run w.rest takes gives targets →
+      IfSome b.run.waiting (λ w. (h : Held) (takes gives : ℕ) (targets : List ℕ) →
+      h.read_only ≡ false → LeadsTo m.program b.frame b.run w.rest takes gives targets →
       ImplementsBound m b
       (λ m place v. asking (home_of to.This) b.run w.asked w.lent (frame_in b.frame b.run)
       (rest_of h w.rest (frame_in b.frame b.run)) m place v) targets takes gives b.run.stacks.handlers
       r c) → ImplementsBound m a rule ts takes gives hs r c
   waited {c} r goes =
-      let did = goes waits.held takes gives ts waits.plain waits.lands.0 in
+      let at = waits_at waits.lands.0 waits.lands.1 waits in
+      let did = (rw waits.lands.1 at goes) at.held takes gives ts at.plain at.lands.0 in
       record {
-        same = compose {one = false} waits.same did.same tt;
+        same = compose {one = false} at.same did.same tt;
         kept = kept_through a.frame b.frame c.frame a.run b.run c.run waits.kept did.kept;
         lands = lands_through m.engine a.run b.run c.run a.frame b.frame c.frame ts takes gives hs r
-            waits.kept.later waits.lands.6 waits.lands.3 waits.lands.4 waits.lands.5 waits.lands.7
-            did.lands;
+            waits.kept.later at.lands.6 at.lands.3 at.lands.4 at.lands.5 at.lands.7 did.lands;
         before = did.before ∙ waits.before;
       }
 

@@ -14,7 +14,7 @@ use Rattle.grain_frame.specs.declared.runs.Progress.TheVariants as progress
 use Rattle.grain_frame.specs.declared.runs.Run.{Run}
 use Rattle.grain_vm.specs.Attempts.{Unchanged}
 use Rattle.grain_vm.specs.Calls.{LeavesAround}
-use Rattle.grain_vm.specs.Catching.{KeepsRun, StopsSo, stop_continuation, Caught, CaughtAt, activation_at, caught_or_left}
+use Rattle.grain_vm.specs.Catching.{stopped_frame, KeepsRun, StopsSo, stop_continuation, Caught, CaughtAt, activation_at, caught_or_left}
 use Rattle.grain_vm.specs.Methods.{NoneAbove}
 use Rattle.grain_vm.specs.declared.loops.Stop.TheVariants as stop
 use Rattle.grain_vm.proofs.CaughtFrames.{stopped_at, caught_runs, offered_so, stopped_so}
@@ -165,20 +165,25 @@ module _ {H : Type 0} {m : Setup H} {a b c : Moment H} (so_far : RunsTo m a b) w
       before = did.before ∙ so_far.before;
     }
 
-  -- a fault was raised
-  module _ (did : Stepped m (begun b) (Ok progress.Failed) c) where
+  -- a fault was raised, and the run has where
+  module _ (did : Stepped m (begun b) (Ok progress.Failed) c) (t : Run H)
+      (is : t ≡ record c.run {
+        stopped = record {
+          address = c.frame.address;
+          floor = c.frame.floor;
+          slot = c.frame.slot;
+        };
+      }) where
     pub stops_by_fault : Simulates m (abstraction a.run a.counts a.host)
         (λ m place w. Go (InFrame (frame_in a.frame a.run place)) w) false
-        (abstraction c.run c.counts c.host)
-        (stop_continuation (Ok (stop.Fault c.frame.address c.frame.floor c.frame.slot)) a.frame.chunk
-        a.frame.base c.run)
-    stops_by_fault =
-        stopped_at a.frame.chunk a.frame.base c.frame c.run (did.kept.chunk ∙ so_far.chunk)
-        (did.kept.base ∙ so_far.base) (led did)
+        (abstraction t c.counts c.host)
+        (stop_continuation (Ok stop.Fault) a.frame.chunk a.frame.base t)
+    stops_by_fault = rw is
+        (stopped_at a.frame.chunk a.frame.base c.frame c.run (did.kept.chunk ∙ so_far.chunk)
+        (did.kept.base ∙ so_far.base) (led did))
 
-    pub stops_so : StopsSo m.program a.frame.chunk a.frame.base c.run
-        (Ok (stop.Fault c.frame.address c.frame.floor c.frame.slot))
-    stops_so = (
+    pub stops_so : StopsSo m.program a.frame.chunk a.frame.base t (Ok stop.Fault)
+    stops_so = rw is (
       did.kept.noted ∙ so_far.runs.unnoted,
       (
         did.stays.0,
@@ -189,6 +194,19 @@ module _ {H : Type 0} {m : Setup H} {a b c : Moment H} (so_far : RunsTo m a b) w
         rw (sym (did.kept.base ∙ so_far.base)) did.stays.5,
       ),
     )
+
+    pub left_around_by_fault : LeavesAround a.run a.counts t c.counts
+    left_around_by_fault =
+        let around = left_around did in
+        record {
+          outer = rw is around.outer;
+          room = rw is around.room;
+          saved = rw is around.saved;
+          level = rw is around.level;
+          this = rw is around.this;
+          later = rw is around.later;
+          before = around.before;
+        }
 
   -- memory is out
   module _ (e : OutOfMemory) (did : Stepped m (begun b) (Err e) c) (t : Run H)
@@ -223,36 +241,37 @@ module _ {H : Type 0} {m : Setup H} {a b c : Moment H} (so_far : RunsTo m a b) w
 
 -- a fault of the frame was caught, and the frame runs on at the handler's address
 pub caught_on : {H : Type 0} {m : Setup H} {a : Moment H} (c : Chunk)
-    (base address floor at low target : ℕ) (slot : Option ℕ) (s t u : Run H) (n k j : StepsView)
+    (base address floor target : ℕ) (s t u : Run H) (n k j : StepsView)
     (host host1 host2 : H) {one : Stop} {said : Option ℕ} →
     RunsTo m a (moment (activation_at c base address floor None) s n host) →
-    one ≡ stop.Fault at low slot →
+    one ≡ stop.Fault →
     Simulates m (abstraction s n host)
     (λ m place w. Go (InFrame (frame_in (activation_at c base address floor None) s place)) w) false
     (abstraction t k host1) (stop_continuation (Ok one) c base t) →
     StopsSo m.program c base t (Ok one) → LeavesAround s n t k → said ≡ Some target →
     Simulates m (abstraction t k host1)
-    (λ m place w. offered m (frame_in (activation_at c base at low slot) t place)
+    (λ m place w. offered m (frame_in (stopped_frame c base t) t place)
     (problem_of t.fault) w) false (abstraction u j host2)
-    (caught_or_left (Ok said) u.fault (frame_in (activation_at c base at low slot) u)) →
+    (caught_or_left (Ok said) u.fault (frame_in (stopped_frame c base t) u)) →
     Caught m.engine t u (Ok said) →
-    (CanCatch m.program (activation_at c base at low slot) t →
-    CaughtAt m.program (activation_at c base at low slot) u (Ok said)) →
-    j.before ≡ k.before → RunsTo m a (moment (activation_at c base target low None) u j host2)
-caught_on {m = m} {a} c base address floor at low target slot s t u n k j host host1 host2 {one} {said}
+    (CanCatch m.program (stopped_frame c base t) t →
+    CaughtAt m.program (stopped_frame c base t) u (Ok said)) →
+    j.before ≡ k.before → RunsTo m a (moment (activation_at c base target t.stopped.floor None) u j host2)
+caught_on {m = m} {a} c base address floor target s t u n k j host host1 host2 {one} {said}
     now is ran stops left found offers kept typed before =
     let stops = subst (λ (q : Stop). StopsSo m.program c base t (Ok q)) is stops in
     let kept = subst (λ (o : Option ℕ). Caught m.engine t u (Ok o)) found kept in
     let typed =
-    subst (λ (o : Option ℕ). CaughtAt m.program (activation_at c base at low slot) u (Ok o)) found
+    subst (λ (o : Option ℕ). CaughtAt m.program (stopped_frame c base t) u (Ok o)) found
     (typed stops.1) in
     let around = around_on now left in
     let fewer = taken m.engine s.count u.count address target (omega (arith, left.later, kept.2))
     (omega (arith, left.later, kept.3)) in
     record {
       goes = compose (compose now.goes (stopped_so c base t is ran) tt)
-          (offered_so (frame_in (activation_at c base at low slot) u) u.fault found offers) tt;
-      runs = caught_runs m.program m.engine c base address floor at low target slot s t u now.runs
+          (offered_so (frame_in (stopped_frame c base t) u) u.fault found offers) tt;
+      runs = caught_runs m.program m.engine c base address floor t.stopped.address t.stopped.floor target
+          t.stopped.slot s t u now.runs
           left.room left.outer stops.0 kept typed;
       outer = kept.0.outer ∙ around.outer;
       saved = kept.0.saved ∙ around.saved;

@@ -1,5 +1,5 @@
 -- An instruction that waits for a native, one native after another.
-use Rattle.std.proofs.Common.{◌≡◌, ◌∙◌, ◌≤◌, ℕ, List, Option, Bool, true, false, inl, inr, Result, Ok, Err, length, refl, sym, ap, subst, arith}
+use Rattle.std.proofs.Common.{◌≡◌, ◌∙◌, ◌≤◌, ℕ, List, Option, Some, None, Bool, true, false, inl, inr, Result, Ok, Err, length, refl, sym, ap, subst, arith}
 use Rattle.grain_value.specs.declared.memory.OutOfMemory.{OutOfMemory}
 use Rattle.grain_value.specs.declared.values.Dynamic.{Dynamic}
 use Rattle.grain_value.specs.declared.values.Held.{Held}
@@ -28,6 +28,7 @@ use Rattle.grain_frame.specs.declared.waiting.Performed.TheVariants as performed
 use Rattle.grain_frame.specs.declared.waiting.Waiting.{Waiting}
 use Rattle.grain_vm.specs.Asks.{EndsNative, IsWaiting, NativeOver}
 use Rattle.grain_vm.specs.Methods.{NoneAbove}
+use Rattle.grain_vm.proofs.Awaiting.{WaitsAt, waits_at}
 use Rattle.grain_vm.proofs.Turns.{none_on}
 use Rattle.grain_vm.proofs.Waited.{kept_on, kept_over, leads_inside, leads_over, rests_out, same_answer, same_frame, state_back, state_here}
 
@@ -78,16 +79,18 @@ lands_from m a b c ts takes gives hs (Ok (performed.Leads p)) ops has handlers c
     lands =
     continues_from m.engine a.run b.run c.run a.frame b.frame c.frame ts takes gives hs (Ok p) ops
     has handlers cursors later is lands
-lands_from m a b c ts takes gives hs (Ok (performed.Waits w)) ops has handlers cursors later is
+lands_from m a b c ts takes gives hs (Ok performed.Waits) ops has handlers cursors later is
     lands = (
       lands.0,
       lands.1,
       lands.2,
-      lands.3 ∙ ops,
-      lands.4 ∙ has,
-      lands.5 ∙ handlers,
-      lands.6 ∙ is,
-      lands.7 ∙ cursors,
+      lands.3,
+      lands.4,
+      lands.5 ∙ ops,
+      lands.6 ∙ has,
+      lands.7 ∙ handlers,
+      lands.8 ∙ is,
+      lands.9 ∙ cursors,
     )
 lands_from m a b c ts takes gives hs (Err e) ops has handlers cursors later is lands = tt
 
@@ -131,8 +134,7 @@ module _ {H : Type 0} {m : Setup H} {a b : Moment H} {rule : Computation H} {ts 
 -- it went on until it was done
 pub waited : {H : Type 0} {m : Setup H} {a b c : Moment H} {rule : Computation H} {ts : List ℕ}
     {takes gives : ℕ} {hs : List Handler} {w : Waiting} {r : Result Progress OutOfMemory}
-    (does : ImplementsOrWaits m a rule ts takes gives hs (Ok (performed.Waits w)) b) →
-    ImplementsBound m b
+    (does : WaitsAt m a rule ts takes gives hs w b) → ImplementsBound m b
     (λ m place v. asking (home_of to.This) b.run w.asked w.lent (frame_in b.frame b.run)
     (rest_of does.held w.rest (frame_in b.frame b.run)) m place v) ts takes gives
     b.run.stacks.handlers r c → ImplementsBound m a rule ts takes gives hs r c
@@ -195,7 +197,7 @@ module _ {H : Type 0} {m : Setup H} (b : Moment H) (w : Waiting) (q : Position) 
 
   module _ {a : Moment H} {rule : Computation H} {ts : List ℕ} {takes gives : ℕ}
       {hs : List Handler} (before : n'.before ≡ b.counts.before)
-      (so : ImplementsOrWaits m a rule ts takes gives hs (Ok (performed.Waits w)) b) where
+      (so : WaitsAt m a rule ts takes gives hs w b) where
     inside : b.frame.base ≤ length b.run.scope
     inside = leads_inside m.program b.frame b.run w.rest takes gives ts so.lands.0
 
@@ -252,10 +254,10 @@ pub record WaitsSo {H : Type 0} (m : Setup H) (a : Moment H) (first w : Waiting)
   pub later : a.run.count ≤ b.run.count
   pub so : (h : Held) (takes gives : ℕ) (targets : List ℕ) → h.read_only ≡ false →
       LeadsTo m.program a.frame a.run first.rest takes gives targets →
-      ImplementsOrWaits m a
+      WaitsAt m a
       (λ m place v. asking (home_of to.This) a.run first.asked first.lent (frame_in a.frame a.run)
       (rest_of h first.rest (frame_in a.frame a.run)) m place v) targets takes gives
-      a.run.stacks.handlers (Ok (performed.Waits w)) b
+      a.run.stacks.handlers w b
 
 pub waits_first : {H : Type 0} (m : Setup H) (a : Moment H) (w : Waiting) →
     IsWaiting m.program a.frame a.run w → NoneAbove a.run.level a.run.receivers →
@@ -291,25 +293,24 @@ pub waits_next : {H : Type 0} {m : Setup H} {a b c : Moment H} {first w next : W
     (left : Option Held) {r : Performed} → WaitsSo m a first w b → NativeOver w.lent b.run s' →
     EndsNative m (record { asked = w.asked; lent = w.lent; pos = q }) b.run b.counts b.host o left
     s' n' host' → IsAt m (frame_in b.frame b.run) q → n'.before ≡ b.counts.before →
-    is_want o ≡ false → r ≡ performed.Waits next →
+    is_want o ≡ false → r ≡ performed.Waits → c.run.waiting ≡ Some next →
     ((takes gives : ℕ) (targets : List ℕ) (h : Held) →
     LeadsTo m.program b.frame s' w.rest takes gives targets → h.read_only ≡ false →
     ImplementsOrWaits m (moment b.frame s' n' host')
     (λ m place v. rest_of h w.rest (frame_in b.frame s') m place (answer_of o) v) targets takes
     gives s'.stacks.handlers (Ok r) c) → WaitsSo m a first next c
 waits_next {H = H} {m} {a} {b} {c} {first} {w} {next} {q} {s'} {n'} {host'} o left {r} was over
-    ended at before want is then =
+    ended at before want is has then =
     let waits = was.waits in
     let leads = leads_over m.program b.frame b.run s' w.lent over w.rest waits.takes waits.gives
     waits.targets waits.lends waits.leads in
-    let does : ImplementsOrWaits m (moment b.frame s' n' host')
+    let does : WaitsAt m (moment b.frame s' n' host')
     (λ m place v. rest_of (read_write dynamic.Unit) w.rest (frame_in b.frame s') m place
-    (answer_of o) v) waits.targets waits.takes waits.gives s'.stacks.handlers
-    (Ok (performed.Waits next)) c =
-    subst (λ (x : Performed). ImplementsOrWaits m (moment b.frame s' n' host')
+    (answer_of o) v) waits.targets waits.takes waits.gives s'.stacks.handlers next c =
+    waits_at next has (subst (λ (x : Performed). ImplementsOrWaits m (moment b.frame s' n' host')
     (λ m place v. rest_of (read_write dynamic.Unit) w.rest (frame_in b.frame s') m place
     (answer_of o) v) waits.targets waits.takes waits.gives s'.stacks.handlers (Ok x) c) is
-    (then waits.takes waits.gives waits.targets (read_write dynamic.Unit) leads refl) in
+    (then waits.takes waits.gives waits.targets (read_write dynamic.Unit) leads refl)) in
     let kept = kept_on b.frame b.frame c.frame b.run s' c.run (kept_over b.frame b.run s' w.lent
     (leads_inside m.program b.frame b.run w.rest waits.takes waits.gives waits.targets waits.leads)
     over) does.kept in
@@ -325,10 +326,60 @@ waits_next {H = H} {m} {a} {b} {c} {first} {w} {next} {q} {s'} {n'} {host'} o le
       none = none_on b.run.receivers c.run.receivers kept.level kept.this was.none;
       later = omega (arith, was.later, kept.later);
       so = λ h takes gives targets plain first_leads.
-          subst (λ (x : Performed). ImplementsOrWaits m a
+          waits_at next has (subst (λ (x : Performed). ImplementsOrWaits m a
           (λ m place v. asking (home_of to.This) a.run first.asked first.lent
           (frame_in a.frame a.run) (rest_of h first.rest (frame_in a.frame a.run)) m place v)
           targets takes gives a.run.stacks.handlers (Ok x) c) is
           (over_on b w q s' n' host' o left waits.lends over ended at before
-          (was.so h takes gives targets plain first_leads) want then);
+          (was.so h takes gives targets plain first_leads) want then));
+    }
+
+-- the natives for which an instruction waited so far: the first one, and the one for which it waits now
+pub record AwaitsSo {H : Type 0} (m : Setup H) (a b : Moment H) : Type 0 where
+  pub first : Waiting
+  pub begins : a.run.waiting ≡ Some first
+  pub now : Waiting
+  pub has : b.run.waiting ≡ Some now
+  pub waits : WaitsSo m a first now b
+
+-- it waits for this one now, where the run has it
+pub waits_for : {H : Type 0} {m : Setup H} {a b : Moment H} (so : AwaitsSo m a b) (w : Waiting) →
+    b.run.waiting ≡ Some w → WaitsSo m a so.first w b
+waits_for {m = m} {a} {b} so w has = subst Waits (sym so.has ∙ has) so.waits where
+  Waits : Option Waiting → Type 0
+  Waits None = Unit {0}
+  Waits (Some x) = WaitsSo m a so.first x b
+
+-- one of them is over, and the run has the next one
+pub next_awaits : {H : Type 0} {m : Setup H} {a b c : Moment H} {first w : Waiting}
+    {q : Position} {s' : Run H} {n' : StepsView} {host' : H} (o : Result Dynamic EvalAltResult)
+    (left : Option Held) {r : Performed} → a.run.waiting ≡ Some first → WaitsSo m a first w b →
+    NativeOver w.lent b.run s' →
+    EndsNative m (record { asked = w.asked; lent = w.lent; pos = q }) b.run b.counts b.host o left
+    s' n' host' → IsAt m (frame_in b.frame b.run) q → n'.before ≡ b.counts.before →
+    is_want o ≡ false → r ≡ performed.Waits →
+    ((takes gives : ℕ) (targets : List ℕ) (h : Held) →
+    LeadsTo m.program b.frame s' w.rest takes gives targets → h.read_only ≡ false →
+    ImplementsOrWaits m (moment b.frame s' n' host')
+    (λ m place v. rest_of h w.rest (frame_in b.frame s') m place (answer_of o) v) targets takes
+    gives s'.stacks.handlers (Ok r) c) → AwaitsSo m a c
+next_awaits {H = H} {m} {a} {b} {c} {first} {w} {q} {s'} {n'} {host'} o left {r} begins was over
+    ended at before want is then =
+    let waits = was.waits in
+    let leads = leads_over m.program b.frame b.run s' w.lent over w.rest waits.takes waits.gives
+    waits.targets waits.lends waits.leads in
+    let does : ImplementsOrWaits m (moment b.frame s' n' host')
+    (λ m place v. rest_of (read_write dynamic.Unit) w.rest (frame_in b.frame s') m place
+    (answer_of o) v) waits.targets waits.takes waits.gives s'.stacks.handlers
+    (Ok performed.Waits) c =
+    subst (λ (x : Performed). ImplementsOrWaits m (moment b.frame s' n' host')
+    (λ m place v. rest_of (read_write dynamic.Unit) w.rest (frame_in b.frame s') m place
+    (answer_of o) v) waits.targets waits.takes waits.gives s'.stacks.handlers (Ok x) c) is
+    (then waits.takes waits.gives waits.targets (read_write dynamic.Unit) leads refl) in
+    record {
+      first = first;
+      begins = begins;
+      now = does.lands.0;
+      has = does.lands.1;
+      waits = waits_next o left was over ended at before want is does.lands.1 then;
     }

@@ -45,6 +45,10 @@ pub record IsWaiting {H : Type 0} (p : View) (f : Activation) (s : Run H) (w : W
   pub lends : Lends w.rest w.lent
   pub kept : IsKept s w.lent
 
+-- an instruction waits for a native that the run has
+abbrev pub Awaits : {H : Type 0} → View → Activation → Run H → Type 0
+Awaits p f s = (w : Waiting) × (s.waiting ≡ Some w) × IsWaiting p f s w
+
 -- a call whose pointer and values are these, and whose faults have this position
 pub record IsCallback {H : Type 0} (m : Setup H) (q : Position) (p : FnPtr) (values : List Tree)
     (c : Option Place → Callback) : Type 0 where

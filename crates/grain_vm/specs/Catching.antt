@@ -102,17 +102,22 @@ abbrev pub activation_at : Chunk → (base address floor : ℕ) → Option ℕ �
 activation_at c base address floor slot =
     record { chunk = c; address = address; base = base; floor = floor; slot = slot }
 
+-- the frame that stopped by a fault, as the run has it
+abbrev pub stopped_frame : {H : Type 0} → Chunk → ℕ → Run H → Activation
+stopped_frame c base s =
+    activation_at c base s.stopped.address s.stopped.floor s.stopped.slot
+
 -- what is to be done once a frame stopped: it is over, or a fault is offered to its handlers
 abbrev pub stop_continuation : {H : Type 0} → Result Stop OutOfMemory → Chunk → ℕ → Run H →
     Computation H
 stop_continuation (Ok stop.Value) c base s m place w = End (Came (top s.stacks.operands).value) w
-stop_continuation (Ok (stop.Fault address floor slot)) c base s m place w =
-    offered m (frame_in (activation_at c base address floor slot) s place) (problem_of s.fault) w
+stop_continuation (Ok stop.Fault) c base s m place w =
+    offered m (frame_in (stopped_frame c base s) s place) (problem_of s.fault) w
 stop_continuation (Err e) c base s m place w = End (Failed NoMemory) w
 
 -- after a fault the trace has no note of the frame yet, and its handlers can catch
 abbrev pub StopsSo : {H : Type 0} → View → Chunk → ℕ → Run H → Result Stop OutOfMemory → Type 0
 StopsSo p c base s (Ok stop.Value) = Unit {0}
-StopsSo p c base s (Ok (stop.Fault address floor slot)) =
-    (s.stacks.noted ≡ false) × CanCatch p (activation_at c base address floor slot) s
+StopsSo p c base s (Ok stop.Fault) =
+    (s.stacks.noted ≡ false) × CanCatch p (stopped_frame c base s) s
 StopsSo p c base s (Err e) = Unit {0}

@@ -82,7 +82,7 @@ op_on destination.This n = op.CallFnPtrOnThis n
 -- an instruction that is done or waits, unless memory ran out
 abbrev pub turn_of : Result Performed OutOfMemory → Result Turn OutOfMemory
 turn_of (Ok (performed.Leads p)) = Ok (turn.Done p)
-turn_of (Ok (performed.Waits w)) = Ok (turn.Waits w)
+turn_of (Ok performed.Waits) = Ok turn.Waits
 turn_of (Err e) = Err e
 
 -- what came of the instruction at which the frame stands, where it is neither `call` nor `call_fn_ptr`:
@@ -90,10 +90,10 @@ turn_of (Err e) = Err e
 abbrev pub StepsHere : {H : Type 0} → Setup H → Moment H → Result Turn OutOfMemory →
     Moment H → Type 0
 StepsHere m a (Ok (turn.Done p)) b = Stepped m a (Ok p) b
-StepsHere m a (Ok (turn.Waits w)) b = (o : Op) × (next : ℕ)
+StepsHere m a (Ok turn.Waits) b = (o : Op) × (next : ℕ)
     × (looping_of o ≡ looping.Keep) × (handling_of o ≡ handling.Keep)
     × StandsAt m.program a.frame a.run o next
-    × PerformsOrWaits m a o next (Ok (performed.Waits w)) b
+    × PerformsOrWaits m a o next (Ok performed.Waits) b
 StepsHere m a (Ok (turn.Chain index next)) b =
     StandsAt m.program a.frame a.run (op.Chain index) next × (b ≡ a)
 StepsHere m a (Ok (turn.Receiver d count next)) b =

@@ -155,7 +155,7 @@ fn walk_or_wait<H: Host, L: Ledger>(
         Err(e) => Err(e),
         Ok(turn) => match turn {
             Turn::Done(progress) => Ok(progress),
-            Turn::Waits(waiting) => wait_for_native(run, context, host, steps, frame, waiting),
+            Turn::Waits => wait_for_native(run, context, host, steps, frame),
             Turn::Chain { index, next } => {
                 walk_chain(run, context, host, steps, frame, index, next)
             }

@@ -1,7 +1,7 @@
 //! Natives that ask for calls: what they ask for is done, and the host hears what came of it, until the
 //! native is over.
 
-ghost use Rattle.std.specs.Prelude.{◌≡◌, ◌<◌, ◌≤◌, ◌-◌, ◌∷◌, [], ℕ, List, Err, None, false, is_some, length, true};
+ghost use Rattle.std.specs.Prelude.{◌≡◌, ◌<◌, ◌≤◌, ◌-◌, ◌∷◌, [], ℕ, List, Err, IfSome, None, false, is_some, length, true};
 ghost use Rattle.grain_value.specs.declared.values.Held.{Held};
 ghost use Rattle.grain_fault.specs.declared.faults.EvalAltResult.TheVariants as fault;
 ghost use Rattle.grain_means.specs.Rules.{call_function};
@@ -13,7 +13,7 @@ ghost use Rattle.grain_program.specs.declared.code.instruction_set.Op.TheVariant
 ghost use Rattle.grain_frame.specs.Targets.{home_of};
 ghost use Rattle.grain_frame.specs.Waiting.{IsKept, LeadsTo, apart_of, asking, rest_of};
 ghost use Rattle.grain_frame.specs.declared.targets.Target.TheVariants as to;
-ghost use Rattle.grain_vm.specs.Asks.{EndsNative, FinishesNative, IsWaiting, NativeOver};
+ghost use Rattle.grain_vm.specs.Asks.{Awaits, EndsNative, FinishesNative, NativeOver};
 ghost use Rattle.grain_vm.specs.Driving.{IsApartIn, IsNative, SameFlag, left_by};
 ghost use Rattle.grain_vm.specs.Methods.{MethodOver, NoneAbove};
 ghost use Rattle.grain_vm.specs.Receivers.{NativeCalled};
@@ -42,21 +42,23 @@ pub(crate) fn wait_for_native<H: Host, L: Ledger>(
     host: &mut H,
     steps: &mut Steps<L>,
     frame: &mut Activation,
-    waiting: Waiting,
 ) -> Result<Progress, OutOfMemory>
-    requires runs { IsWaiting context.program.now frame.old run.old waiting }
+    requires runs { Awaits context.program.now frame.old run.old }
     requires none { NoneAbove run.old.level run.old.receivers }
-    ensures goes { (h : Held) (takes gives : ℕ) (targets : List ℕ) → h.read_only ≡ false →
+    ensures goes { IfSome run.old.waiting (λ waiting. (h : Held) (takes gives : ℕ)
+        (targets : List ℕ) → h.read_only ≡ false →
         LeadsTo context.entry.program.now frame.old run.old waiting.rest takes gives targets →
         ImplementsBound (setup_of H.law context.entry)
         (moment frame.old run.old steps.old host.old)
         (λ m place w. asking (home_of to.This) run.old waiting.asked waiting.lent
         (frame_in frame.old run.old) (rest_of h waiting.rest (frame_in frame.old run.old)) m place w)
         targets takes gives run.old.stacks.handlers result
-        (moment frame.new run.new steps.new host.new) }
+        (moment frame.new run.new steps.new host.new)) }
 {
-    let mut waiting = waiting;
     'natives: loop {
+        let Some(waiting) = run.take_waiting() else {
+            unreachable!()
+        };
         let Waiting { asked, lent, rest } = waiting;
         let pos = context.program.position(frame.address);
         let native = AskingNative { asked, lent, pos };
@@ -66,7 +68,7 @@ pub(crate) fn wait_for_native<H: Host, L: Ledger>(
         }
         match run.native_over(context, host, steps, frame, rest, outcome)? {
             Performed::Leads(progress) => return Ok(progress),
-            Performed::Waits(next) => waiting = next,
+            Performed::Waits => {}
         }
     }
 }
@@ -108,7 +110,7 @@ pub(crate) fn native_by_name<H: Host, L: Ledger>(
 {
     match run.native_by_name(context, host, steps, frame, name, count, next)? {
         Performed::Leads(progress) => Ok(progress),
-        Performed::Waits(waiting) => wait_for_native(run, context, host, steps, frame, waiting),
+        Performed::Waits => wait_for_native(run, context, host, steps, frame),
     }
 }
 

@@ -163,7 +163,7 @@ fn bind<H: Host>(
     )
 }
 
-// Raises in the caller's frame the fault that left the body of a function. One that cannot be
+// Raises in the caller's frame, which stands at this address, the fault that left the body of a function. One that cannot be
 // caught gets the position of the call; any other is wrapped in `ErrorInFunctionCall`, which
 // names the function.
 #[cold]
@@ -172,22 +172,22 @@ fn propagate<H: Host, L: Ledger>(
     run: &mut Run<H>,
     context: Context<'_>,
     steps: &mut Steps<L>,
-    frame: Activation,
+    address: usize,
     function: &Function,
 ) -> Result<Progress, OutOfMemory>
     requires named { IsNamed context.program.now function.now }
-    ensures same { (host : H) → SimulatesExactly
+    ensures same { (f : Activation) (host : H) → f.address ≡ address → SimulatesExactly
         (setup_of H.law context.entry)
         (abstraction run.old steps.old host)
-        (λ m place w. propagate m function.now (frame_in frame run.old place)
+        (λ m place w. propagate m function.now (frame_in f run.old place)
         (problem_of run.old.fault) w)
         (is_out result) (abstraction run.new steps.new host)
-        (continuation result run.new.fault (frame_in frame run.new)) }
+        (continuation result run.new.fault (frame_in f run.new)) }
     ensures over { IfOk result (λ p. p ≡ Progress.Failed) }
     ensures others { run.new ≡ record run.old { fault = run.new.fault } }
     ensures before { steps.new.before ≡ steps.old.before }
 {
-    let position = context.program.position(frame.address);
+    let position = context.program.position(address);
     let mut fault = run.take_fault();
     if !fault.is_catchable() {
         fault.set_position(position);
@@ -281,26 +281,38 @@ pub(crate) fn resume_caller<H: Host, L: Ledger>(
         result }
     ensures before { steps.new.before ≡ steps.old.before }
 {
-    run.saved.restore(&mut run.scope);
-    run.level -= 1;
     match end {
-        Ok(end) => match end {
-            FrameEnd::Value => {
-                run.stacks.leave_with_value();
-                frame.address = next;
-                steps.mark();
-                Ok(Progress::Continues)
-            }
-            FrameEnd::Fault => {
-                run.stacks.leave();
-                propagate(run, context, steps, *frame, function)
-            }
-        },
+        Ok(FrameEnd::Value) => {
+            run.saved.restore(&mut run.scope);
+            run.level -= 1;
+            run.stacks.leave_with_value();
+            frame.address = next;
+            steps.mark();
+            Ok(Progress::Continues)
+        }
+        Ok(FrameEnd::Fault) => {
+            leave_call(run);
+            propagate(run, context, steps, frame.address, function)
+        }
         Err(e) => {
-            run.stacks.leave();
+            leave_call(run);
             Err(e)
         }
     }
+}
+
+// Leaves the frame of a function without a value, and puts the caller's scope and level back.
+#[cold]
+#[inline(never)]
+fn leave_call<H: Host>(run: &mut Run<H>)
+    requires entered { 0 < length run.old.stacks.outer }
+    requires waits { 0 < length run.old.saved }
+    requires called { 0 < run.old.level }
+    ensures { run.new ≡ caller_of run.old }
+{
+    run.saved.restore(&mut run.scope);
+    run.level -= 1;
+    run.stacks.leave();
 }
 
 // The name of the script that the program was made from, empty if it has none.

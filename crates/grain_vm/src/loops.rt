@@ -29,13 +29,8 @@ use std::sync::ledger::Ledger;
 pub enum Stop {
     /// To its end, with a value, which is its last operand, or unit if it has none.
     Value,
-    /// To a fault, which the run holds and which was raised at this address. The frame then has this
-    /// floor, and blames the step of this slot, if any.
-    Fault {
-        address: usize,
-        floor: usize,
-        slot: Option<u32>,
-    },
+    /// To a fault, which the run holds, and with it where the frame stopped.
+    Fault,
 }
 
 // Calls a function on the last operands, in a frame of its own; afterwards the caller's frame goes on
@@ -148,20 +143,19 @@ pub(crate) fn run_frame<H: Host, L: Ledger>(
             Err(e) => return Err(e),
             Ok(stop) => match stop {
                 Stop::Value => return Ok(FrameEnd::Value),
-                Stop::Fault {
-                    address: at,
-                    floor: low,
-                    slot,
-                } => match catch(run, context, host, steps, at, low, slot) {
-                    Err(e) => return Err(e),
-                    Ok(caught) => match caught {
-                        Some(target) => {
-                            address = target as usize;
-                            floor = low;
-                        }
-                        None => return Ok(FrameEnd::Fault),
-                    },
-                },
+                Stop::Fault => {
+                    let at = run.stopped;
+                    match catch(run, context, host, steps, at.address, at.floor, at.slot) {
+                        Err(e) => return Err(e),
+                        Ok(caught) => match caught {
+                            Some(target) => {
+                                address = target as usize;
+                                floor = at.floor;
+                            }
+                            None => return Ok(FrameEnd::Fault),
+                        },
+                    }
+                }
             },
         }
     }
@@ -216,11 +210,8 @@ fn run_from<H: Host, L: Ledger>(
                         Progress::Continues => continue 'turn,
                         Progress::Returned => return Ok(Stop::Value),
                         Progress::Failed => {
-                            return Ok(Stop::Fault {
-                                address: frame.address,
-                                floor: frame.floor,
-                                slot: frame.slot,
-                            });
+                            run.note_stop(&frame);
+                            return Ok(Stop::Fault);
                         }
                     },
                 }
@@ -235,11 +226,10 @@ fn run_from<H: Host, L: Ledger>(
             Ok(progress) => match progress {
                 Progress::Continues => {}
                 Progress::Returned => return Ok(Stop::Value),
-                Progress::Failed => return Ok(Stop::Fault {
-                    address: frame.address,
-                    floor: frame.floor,
-                    slot: frame.slot,
-                }),
+                Progress::Failed => {
+                    run.note_stop(&frame);
+                    return Ok(Stop::Fault);
+                }
             },
         }
     }

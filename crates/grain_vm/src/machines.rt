@@ -15,7 +15,7 @@ ghost use Rattle.grain_vm.specs.Machines.{begin, finish, with_memory_fault};
 
 use crate::main_runs::run_main;
 use grain_fault::{EvalAltResult, Fault, RhaiResult};
-use grain_frame::{Context, Receivers, Run, SavedScopes};
+use grain_frame::{Context, Receivers, Run, SavedScopes, Stopped};
 use grain_global::{Engine, GlobalRuntimeState, Steps};
 use grain_host::Host;
 use grain_program::Program;
@@ -137,6 +137,12 @@ impl<'e> Machine<'e> {
             count: global.num_operations,
             level: global.level,
             fault: EvalAltResult::Memory,
+            stopped: Stopped {
+                address: 0,
+                floor: 0,
+                slot: None,
+            },
+            waiting: None,
             receivers: Receivers::new(alloc),
             host: PhantomData,
         };
@@ -151,6 +157,8 @@ impl<'e> Machine<'e> {
             level,
             fault: _,
             receivers: _,
+            stopped: _,
+            waiting: _,
             host: _,
         } = run;
         self.stacks = stacks;

@@ -19,7 +19,7 @@ pub enum Turn {
     /// It is done.
     Done(Progress),
     /// It waits for a native.
-    Waits(Waiting),
+    Waits,
     /// It walks the chain with this index; afterwards the frame goes on at the address `next`.
     Chain {
         index: u16,
@@ -41,7 +41,7 @@ impl Turn {
     {
         match performed? {
             Performed::Leads(progress) => Ok(Turn::Done(progress)),
-            Performed::Waits(waiting) => Ok(Turn::Waits(waiting)),
+            Performed::Waits => Ok(Turn::Waits),
         }
     }
 }

@@ -1,5 +1,5 @@
 -- Instructions that lead somewhere, or that wait for a native.
-use Rattle.std.proofs.Common.{◌≡◌, ◌∙◌, ◌≤◌, ℕ, List, Option, None, true, false, Result, Ok, Err, length, refl, sym, subst, arith}
+use Rattle.std.proofs.Common.{◌≡◌, ◌∙◌, ◌≤◌, ℕ, List, Option, Some, None, true, false, Result, Ok, Err, length, refl, sym, subst, arith}
 use Rattle.grain_value.specs.declared.values.Dynamic.TheVariants as dynamic
 use Rattle.grain_value.specs.declared.values.Held.{Held}
 use Rattle.grain_value.specs.declared.memory.OutOfMemory.{OutOfMemory}
@@ -25,6 +25,8 @@ use Rattle.grain_frame.specs.declared.waiting.Loan.TheVariants as have
 use Rattle.grain_frame.specs.declared.waiting.Performed.{Performed}
 use Rattle.grain_frame.specs.declared.waiting.Performed.TheVariants as performed
 use Rattle.grain_frame.specs.declared.waiting.Rest.{Rest}
+use Rattle.grain_frame.specs.declared.waiting.Waiting.{Waiting}
+use Rattle.grain_frame.specs.lemmas.Awaited.{awaits}
 use Rattle.grain_frame.specs.lemmas.Bound.{as_bound, reading}
 
 module _ {H : Type 0} {m : Setup H} {a b : Moment H} {ts : List ℕ} {takes gives : ℕ}
@@ -99,15 +101,18 @@ module _ {H : Type 0} {m : Setup H} {a b : Moment H} {ts : List ℕ} {takes give
   }
 
 -- one that is done waits for nothing more
-pub less_led : (x : Rest) (r : Result Progress OutOfMemory) (q : Result Performed OutOfMemory) →
-    q ≡ performed_of r → WaitsLess x q
-less_led x (Ok p) q is = subst (λ (y : Result Performed OutOfMemory). WaitsLess x y) (sym is) tt
-less_led x (Err e) q is = subst (λ (y : Result Performed OutOfMemory). WaitsLess x y) (sym is) tt
+pub less_led : (x : Rest) (r : Result Progress OutOfMemory) (q : Result Performed OutOfMemory)
+    (y : Option Waiting) → q ≡ performed_of r → WaitsLess x q y
+less_led x (Ok p) q y is =
+    subst (λ (z : Result Performed OutOfMemory). WaitsLess x z y) (sym is) tt
+less_led x (Err e) q y is =
+    subst (λ (z : Result Performed OutOfMemory). WaitsLess x z y) (sym is) tt
 
 -- nor does one where memory ran out
-pub less_out : (x : Rest) (q : Result Performed OutOfMemory) → is_out q ≡ true → WaitsLess x q
-less_out x (Ok y) out = absurd cc
-less_out x (Err e) out = tt
+pub less_out : (x : Rest) (q : Result Performed OutOfMemory) (y : Option Waiting) →
+    is_out q ≡ true → WaitsLess x q y
+less_out x (Ok z) y out = absurd cc
+less_out x (Err e) y out = tt
 
 -- a native that is lent nothing asks for a call
 pub native_waits : {H : Type 0} (law : Law H) (p : View) (engine : Engine) (f : Activation)
@@ -119,12 +124,17 @@ pub native_waits : {H : Type 0} (law : Law H) (p : View) (engine : Engine) (f : 
     (native_continuation (Ok (native_end.Asks c)) (λ place. None) (frame_in f s)
     (λ m place v w. value_rest r (frame_in f s) m place v w)
     (λ m place x w. fault_rest g r (frame_in f s) m place x w)) →
+    (b : Run H) (q : Performed) →
+    b ≡ record t { waiting = Some (record { asked = c; lent = have.Nothing; rest = r }) } →
+    q ≡ performed.Waits →
     ImplementsOrWaits (setup law p engine) (moment f s n host) rule ts takes gives
-    s.stacks.handlers
-    (Ok (performed.Waits (record { asked = c; lent = have.Nothing; rest = r })))
-    (moment f t k mid)
+    s.stacks.handlers (Ok q) (moment f b k mid)
 native_waits {H = H} law p engine f s t n k host mid {rule} {ts} {takes} {gives} run before inside
-    g plain c r lends leads does = subst (λ (q : Run H). Asks q → Waits q) (sym run) at does where
+    g plain c r lends leads does b q is waits =
+    rw (is, waits) (subst (λ (x : Run H). Asks x → Waits x) (sym run) at does) where
+      w : Waiting
+      w = record { asked = c; lent = have.Nothing; rest = r }
+
       Asks : Run H → Type 0
       Asks q = SimulatesExactly (setup law p engine) (abstraction s n host) rule false
           (abstraction q k mid)
@@ -133,10 +143,8 @@ native_waits {H = H} law p engine f s t n k host mid {rule} {ts} {takes} {gives}
           (λ m place x w. fault_rest g r (frame_in f s) m place x w))
 
       Waits : Run H → Type 0
-      Waits q = ImplementsOrWaits (setup law p engine) (moment f s n host) rule ts takes gives
-          s.stacks.handlers
-          (Ok (performed.Waits (record { asked = c; lent = have.Nothing; rest = r })))
-          (moment f q k mid)
+      Waits x = ImplementsOrWaits (setup law p engine) (moment f s n host) rule ts takes gives
+          s.stacks.handlers (Ok performed.Waits) (moment f (record x { waiting = Some w }) k mid)
 
       at : Asks s → Waits s
       at does = record {
@@ -159,6 +167,17 @@ native_waits {H = H} law p engine f s t n k host mid {rule} {ts} {takes} {gives}
           this = (refl, refl);
           later = omega arith;
         };
-        lands = (leads, lends, tt, refl, refl, refl, refl, refl);
+        lands = (
+          w,
+          refl,
+          awaits s (Some w) p f r takes gives ts leads,
+          lends,
+          tt,
+          refl,
+          refl,
+          refl,
+          refl,
+          refl,
+        );
         before = before;
       }

@@ -14,11 +14,12 @@ use Rattle.grain_vm.proofs.ChainAhead.{chain_stepped}
 use Rattle.grain_vm.proofs.ReceiverAhead.{receiver_stepped}
 use Rattle.grain_vm.proofs.Waited.{leads_over}
 use Rattle.grain_vm.proofs.WaitsAhead.{waits_stepped}
-use Rattle.grain_vm.proofs.WaitsOn.{led_to, out_back, over_on, over_out, waits_first, waits_next}
-use Rattle.grain_vm.proofs.Running.{around_caught, around_on, caught_on, done_after, done_from, done_so, led, left_around, left_around_by_memory, runs_here, runs_on, stops_by_fault, stops_by_memory, stops_so, turn_falls}
+use Rattle.grain_vm.proofs.Awaiting.{ends_from, over_from}
+use Rattle.grain_vm.proofs.WaitsOn.{led_to, next_awaits, out_back, over_on, over_out, waits_first, waits_for}
+use Rattle.grain_vm.proofs.Running.{around_caught, around_on, caught_on, done_after, done_from, done_so, led, left_around, left_around_by_fault, left_around_by_memory, runs_here, runs_on, stops_by_fault, stops_by_memory, stops_so, turn_falls}
 use Rattle.grain_vm.proofs.BoundFrames.{all_still, unbound_above}
 use Rattle.grain_vm.proofs.MethodOvers.{called_one, method_ran, method_refused}
-use Rattle.grain_vm.specs.Catching.{activation_at, StopsSo, Caught}
+use Rattle.grain_vm.specs.Catching.{stopped_frame, StopsSo, Caught}
 use Rattle.grain_vm.specs.declared.loops.Stop.{Stop}
 use Rattle.grain_vm.proofs.CaughtFrames.{offered_so, stopped_so}
 use Rattle.grain_means.specs.lemmas.Stretches.{compose, same}
@@ -233,10 +234,11 @@ loops::run_from-returns-in-Failed g t c =
     let did = done_so c.in-Failed.is
     (done_after c.turn.steps c.begin_instruction.ensures c.mark.ensures c.in-Jump.ensures.0
     c.in-Ok.ensures.stepped) in
+    let noted = c.note_stop in
     record {
-      goes = stops_by_fault c.turn.invariant did;
-      catches = stops_so c.turn.invariant did;
-      around = left_around c.turn.invariant did;
+      goes = stops_by_fault c.turn.invariant did noted.new.self noted.ensures;
+      catches = stops_so c.turn.invariant did noted.new.self noted.ensures;
+      around = left_around_by_fault c.turn.invariant did noted.new.self noted.ensures;
     }
 
 pub loops::run_from-returns-in-Err-proceed : goal.loops::run_from-returns-in-Err-proceed
@@ -273,10 +275,11 @@ loops::run_from-returns-in-Failed-progress g t c =
     let did = done_so c.in-Failed-progress.is
     (done_after c.turn.steps c.begin_instruction.ensures c.mark.ensures c.in-Pending.ensures.0
     c.in-Ok-proceed.ensures.stepped) in
+    let noted = c.note_stop-in-Failed-progress in
     record {
-      goes = stops_by_fault c.turn.invariant did;
-      catches = stops_so c.turn.invariant did;
-      around = left_around c.turn.invariant did;
+      goes = stops_by_fault c.turn.invariant did noted.new.self noted.ensures;
+      catches = stops_so c.turn.invariant did noted.new.self noted.ensures;
+      around = left_around_by_fault c.turn.invariant did noted.new.self noted.ensures;
     }
 
 pub loops::run_frame-returns-in-Err : goal.loops::run_frame-returns-in-Err
@@ -295,14 +298,14 @@ loops::run_frame-returns-in-Value g t c = record {
 
 pub loops::run_frame-catch-requires-clause-catches : goal.loops::run_frame-catch-requires-clause-catches
 loops::run_frame-catch-requires-clause-catches g t c = (
-  activation_at c.args.chunk.now c.args.base c.in-Fault.at c.in-Fault.low c.in-Fault.slot,
+  stopped_frame c.args.chunk.now c.args.base c.run_from.new.run,
   (subst (λ (q : Stop). StopsSo c.args.context.program.now c.args.chunk.now c.args.base
       c.run_from.new.run (Ok q)) c.in-Fault.is c.in-Ok.ensures.catches).1,
 )
 
 pub loops::run_frame-returns-in-Err-catch : goal.loops::run_frame-returns-in-Err-catch
 loops::run_frame-returns-in-Err-catch g t c =
-    let at = activation_at c.args.chunk.now c.args.base c.in-Fault.at c.in-Fault.low c.in-Fault.slot in
+    let at = stopped_frame c.args.chunk.now c.args.base c.run_from.new.run in
     record {
       goes = compose (compose c.frame.invariant.goes
           (stopped_so c.args.chunk.now c.args.base c.run_from.new.run c.in-Fault.is
@@ -313,7 +316,7 @@ loops::run_frame-returns-in-Err-catch g t c =
 
 pub loops::run_frame-returns-in-None : goal.loops::run_frame-returns-in-None
 loops::run_frame-returns-in-None g t c =
-    let at = activation_at c.args.chunk.now c.args.base c.in-Fault.at c.in-Fault.low c.in-Fault.slot in
+    let at = stopped_frame c.args.chunk.now c.args.base c.run_from.new.run in
     let kept =
     subst (λ (o : Option ℕ). Caught c.args.context.engine.now c.run_from.new.run c.catch.new.run
     (Ok o)) c.in-None.is c.in-Ok-catch.ensures.kept in
@@ -331,9 +334,9 @@ loops::run_frame-frame-preserved g t c =
     let ran = c.run_from.new in
     let caught = c.catch.new in
     let offers = c.in-Ok-catch.ensures in
-    let at = activation_at c.args.chunk.now c.args.base c.in-Fault.at c.in-Fault.low c.in-Fault.slot in
-    caught_on c.args.chunk.now c.args.base c.frame.address c.frame.floor c.in-Fault.at c.in-Fault.low
-    c.in-Some.target c.in-Fault.slot c.frame.run ran.run caught.run c.frame.steps ran.steps caught.steps
+    let at = stopped_frame c.args.chunk.now c.args.base c.run_from.new.run in
+    caught_on c.args.chunk.now c.args.base c.frame.address c.frame.floor
+    c.in-Some.target c.frame.run ran.run caught.run c.frame.steps ran.steps caught.steps
     c.frame.host ran.host caught.host c.frame.invariant c.in-Fault.is c.in-Ok.ensures.goes
     c.in-Ok.ensures.catches c.in-Ok.ensures.around c.in-Some.is (offers.goes at refl refl refl)
     offers.kept (offers.typed at) c.catch.ensures.before
@@ -363,7 +366,7 @@ apart::walk_or_wait-returns-in-Waits g t c =
     record {
       stepped = waits_stepped g.H.Host.law c.args.context.program.now c.args.context.engine.now
           (moment c.args.frame.now c.args.run.now c.args.steps.now c.args.host.now)
-          (moment did.frame did.run did.steps did.host) c.in-Ok.turn c.in-Waits.waiting c.in-Waits.is
+          (moment did.frame did.run did.steps did.host) c.in-Ok.turn c.in-Waits.is
           c.in-Ok.ensures.steps c.requires.runs waited.ensures.goes;
     }
 
@@ -941,68 +944,96 @@ finding::find_pointed-returns g t c =
 
 pub asks::wait_for_native-natives-init : goal.asks::wait_for_native-natives-init
 asks::wait_for_native-natives-init g t c =
-    waits_first (setup g.H.Host.law c.args.context.program.now c.args.context.engine.now)
-    (moment c.args.frame.now c.args.run.now c.args.steps.now c.args.host.now) c.args.waiting
-    c.requires.runs c.requires.none
+    let w = c.requires.runs in
+    record {
+      first = w.0;
+      begins = w.1;
+      now = w.0;
+      has = w.1;
+      waits = waits_first (setup g.H.Host.law c.args.context.program.now c.args.context.engine.now)
+          (moment c.args.frame.now c.args.run.now c.args.steps.now c.args.host.now) w.0 w.2
+          c.requires.none;
+    }
 
 pub asks::wait_for_native-native_over-requires-clause-leads :
     goal.asks::wait_for_native-native_over-requires-clause-leads
 asks::wait_for_native-native_over-requires-clause-leads g t c =
-    let waits = c.natives.invariant.waits in
-    let ended = c.end_of_native-outcome in (
+    let ended = c.end_of_native-outcome in
+    let w = c.in-Some.waiting in
+    let was = waits_for c.natives.invariant w (sym c.take_waiting.ensures.value ∙ c.in-Some.is) in
+    let waits = was.waits in
+    let over = over_from c.natives.run None w.lent ended.new.run
+    (rw c.take_waiting.ensures.after at ended.ensures.over) in (
       waits.takes,
       waits.gives,
       waits.targets,
-      leads_over c.args.context.program.now c.natives.frame c.natives.run ended.new.run
-          c.natives.waiting.lent ended.ensures.over c.natives.waiting.rest waits.takes waits.gives
-          waits.targets waits.lends waits.leads,
+      leads_over c.args.context.program.now c.natives.frame c.natives.run ended.new.run w.lent over
+          w.rest waits.takes waits.gives waits.targets waits.lends waits.leads,
     )
 
 pub asks::wait_for_native-returns-then-is_out : goal.asks::wait_for_native-returns-then-is_out
 asks::wait_for_native-returns-then-is_out g t c =
     let m = setup g.H.Host.law c.args.context.program.now c.args.context.engine.now in
-    let was = c.natives.invariant in
     let b = moment c.natives.frame c.natives.run c.natives.steps c.natives.host in
     let ended = c.end_of_native-outcome in
+    let w = c.in-Some.waiting in
+    let was = waits_for c.natives.invariant w (sym c.take_waiting.ensures.value ∙ c.in-Some.is) in
+    let over = over_from c.natives.run None w.lent ended.new.run
+    (rw c.take_waiting.ensures.after at ended.ensures.over) in
+    let ends = ends_from c.natives.run None m w.asked w.lent c.position-pos.result c.natives.steps
+    c.natives.host ended.result.0 ended.result.1 ended.new.run ended.new.steps ended.new.host
+    (rw c.take_waiting.ensures.after at ended.ensures.ends) in
     record {
-      goes = λ h takes gives targets plain leads.
-          over_out {m = m} b c.natives.waiting c.position-pos.result ended.new.run ended.new.steps
-          ended.new.host ended.result.0 ended.result.1 was.waits.lends ended.ensures.over
-          ended.ensures.ends (λ place. sym c.position-pos.ensures) ended.ensures.before
-          (was.so h takes gives targets plain leads) (sym c.is_out.ensures ∙ c.if-is_out.true);
+      goes = rw c.natives.invariant.begins (λ h takes gives targets plain leads.
+          over_out {m = m} b w c.position-pos.result ended.new.run ended.new.steps
+          ended.new.host ended.result.0 ended.result.1 was.waits.lends over
+          ends (λ place. sym c.position-pos.ensures) ended.ensures.before
+          (was.so h takes gives targets plain leads) (sym c.is_out.ensures ∙ c.if-is_out.true));
     }
 
 pub asks::wait_for_native-returns-in_err-progress : goal.asks::wait_for_native-returns-in_err-progress
 asks::wait_for_native-returns-in_err-progress g t c =
     let m = setup g.H.Host.law c.args.context.program.now c.args.context.engine.now in
-    let was = c.natives.invariant in
     let b = moment c.natives.frame c.natives.run c.natives.steps c.natives.host in
     let ended = c.end_of_native-outcome in
+    let w = c.in-Some.waiting in
+    let was = waits_for c.natives.invariant w (sym c.take_waiting.ensures.value ∙ c.in-Some.is) in
+    let over = over_from c.natives.run None w.lent ended.new.run
+    (rw c.take_waiting.ensures.after at ended.ensures.over) in
+    let ends = ends_from c.natives.run None m w.asked w.lent c.position-pos.result c.natives.steps
+    c.natives.host ended.result.0 ended.result.1 ended.new.run ended.new.steps ended.new.host
+    (rw c.take_waiting.ensures.after at ended.ensures.ends) in
     let out : is_out c.from_residual.result ≡ true = search rules in
     record {
-      goes = λ h takes gives targets plain leads.
+      goes = rw c.natives.invariant.begins (λ h takes gives targets plain leads.
           out_back c.in_err-progress.field-0.0 c.from_residual.result out
-          (over_on {m = m} b c.natives.waiting c.position-pos.result ended.new.run ended.new.steps
-          ended.new.host ended.result.0 ended.result.1 was.waits.lends ended.ensures.over
-          ended.ensures.ends (λ place. sym c.position-pos.ensures) ended.ensures.before
+          (over_on {m = m} b w c.position-pos.result ended.new.run ended.new.steps
+          ended.new.host ended.result.0 ended.result.1 was.waits.lends over
+          ends (λ place. sym c.position-pos.ensures) ended.ensures.before
           (was.so h takes gives targets plain leads) (sym c.is_out.ensures ∙ c.if-is_out.false)
-          c.in_err-progress.ensures.implements);
+          c.in_err-progress.ensures.implements));
     }
 
 pub asks::wait_for_native-returns-in-Leads : goal.asks::wait_for_native-returns-in-Leads
 asks::wait_for_native-returns-in-Leads g t c =
     let m = setup g.H.Host.law c.args.context.program.now c.args.context.engine.now in
-    let was = c.natives.invariant in
     let b = moment c.natives.frame c.natives.run c.natives.steps c.natives.host in
     let ended = c.end_of_native-outcome in
+    let w = c.in-Some.waiting in
+    let was = waits_for c.natives.invariant w (sym c.take_waiting.ensures.value ∙ c.in-Some.is) in
+    let over = over_from c.natives.run None w.lent ended.new.run
+    (rw c.take_waiting.ensures.after at ended.ensures.over) in
+    let ends = ends_from c.natives.run None m w.asked w.lent c.position-pos.result c.natives.steps
+    c.natives.host ended.result.0 ended.result.1 ended.new.run ended.new.steps ended.new.host
+    (rw c.take_waiting.ensures.after at ended.ensures.ends) in
     record {
-      goes = λ h takes gives targets plain leads.
+      goes = rw c.natives.invariant.begins (λ h takes gives targets plain leads.
           led_to c.in-Leads.is
-          (over_on {m = m} b c.natives.waiting c.position-pos.result ended.new.run ended.new.steps
-          ended.new.host ended.result.0 ended.result.1 was.waits.lends ended.ensures.over
-          ended.ensures.ends (λ place. sym c.position-pos.ensures) ended.ensures.before
+          (over_on {m = m} b w c.position-pos.result ended.new.run ended.new.steps
+          ended.new.host ended.result.0 ended.result.1 was.waits.lends over
+          ends (λ place. sym c.position-pos.ensures) ended.ensures.before
           (was.so h takes gives targets plain leads) (sym c.is_out.ensures ∙ c.if-is_out.false)
-          c.in_ok-progress.ensures.implements);
+          c.in_ok-progress.ensures.implements));
     }
 
 pub asks::wait_for_native-natives-preserved : goal.asks::wait_for_native-natives-preserved
@@ -1010,13 +1041,20 @@ asks::wait_for_native-natives-preserved g t c =
     let m = setup g.H.Host.law c.args.context.program.now c.args.context.engine.now in
     let ended = c.end_of_native-outcome in
     let went = c.native_over.new in
-    waits_next {m = m}
+    let w = c.in-Some.waiting in
+    let now = c.natives.invariant in
+    let was = waits_for now w (sym c.take_waiting.ensures.value ∙ c.in-Some.is) in
+    let over = over_from c.natives.run None w.lent ended.new.run
+    (rw c.take_waiting.ensures.after at ended.ensures.over) in
+    let ends = ends_from c.natives.run None m w.asked w.lent c.position-pos.result c.natives.steps
+    c.natives.host ended.result.0 ended.result.1 ended.new.run ended.new.steps ended.new.host
+    (rw c.take_waiting.ensures.after at ended.ensures.ends) in
+    next_awaits {m = m}
     {a = moment c.args.frame.now c.args.run.now c.args.steps.now c.args.host.now}
     {b = moment c.natives.frame c.natives.run c.natives.steps c.natives.host}
-    {c = moment went.frame went.self went.steps went.host} {first = c.args.waiting}
-    {w = c.natives.waiting} {next = c.in-Waits.next} {q = c.position-pos.result}
+    {c = moment went.frame went.self went.steps went.host} {w = w} {q = c.position-pos.result}
     {s' = ended.new.run} {n' = ended.new.steps} {host' = ended.new.host} ended.result.0
-    ended.result.1 c.natives.invariant ended.ensures.over ended.ensures.ends
+    ended.result.1 now.begins was over ends
     (λ place. sym c.position-pos.ensures) ended.ensures.before
     (sym c.is_out.ensures ∙ c.if-is_out.false) c.in-Waits.is c.in_ok-progress.ensures.implements
 
@@ -1107,8 +1145,8 @@ asks::native_by_name-returns-in-Leads g t c = record {
 
 pub asks::native_by_name-returns-in-Waits : goal.asks::native_by_name-returns-in-Waits
 asks::native_by_name-returns-in-Waits g t c = record {
-  implements = waited c.in-Waits.waiting
-      (it_waits c.in_ok-progress.field-0 (performed.Waits c.in-Waits.waiting) c.in-Waits.is
+  implements = waited
+      (it_waits c.in_ok-progress.field-0 performed.Waits c.in-Waits.is
       c.in_ok-progress.ensures.implements) c.wait_for_native.result c.wait_for_native.ensures.goes;
 }
 

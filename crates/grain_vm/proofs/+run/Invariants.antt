@@ -8,8 +8,8 @@ use Rattle.grain_vm.specs.Catching.{activation_at}
 use Rattle.grain_vm.proofs.AskEnds.{AskedSoFar}
 use Rattle.grain_vm.proofs.Measure.{left}
 use Rattle.grain_vm.proofs.Running.{RunsTo}
-use Rattle.grain_vm.proofs.WaitsOn.{WaitsSo}
-use Rattle.grain_frame.specs.Rests.{waits_left}
+use Rattle.grain_vm.proofs.WaitsOn.{AwaitsSo}
+use Rattle.grain_frame.specs.Rests.{awaits_left}
 use Rattle.grain_vm.proofs.+run.Given as goal
 
 -- The operations that are left, then the code that is left, and then the function. What a walk or a native
@@ -140,12 +140,11 @@ decreases-loops::run_frame-frame g l = left l.context.engine.now l.run.count l.a
 -- the natives for which an instruction waited, against where it began
 abbrev pub invariant-asks::wait_for_native-natives : goal.invariant-asks::wait_for_native-natives
 invariant-asks::wait_for_native-natives g l =
-    WaitsSo (setup g.H.Host.law l.context.program.now l.context.engine.now)
-    (moment l.fn.frame l.fn.run l.fn.steps l.fn.host) l.fn.waiting l.waiting
-    (moment l.frame l.run l.steps l.host)
+    AwaitsSo (setup g.H.Host.law l.context.program.now l.context.engine.now)
+    (moment l.fn.frame l.fn.run l.fn.steps l.fn.host) (moment l.frame l.run l.steps l.host)
 
 abbrev pub decreases-asks::wait_for_native-natives : goal.decreases-asks::wait_for_native-natives
-decreases-asks::wait_for_native-natives g l = waits_left l.waiting.rest
+decreases-asks::wait_for_native-natives g l = awaits_left l.run.waiting
 
 -- what a native asks for now, after all that it asked for before
 abbrev pub invariant-asks::end_of_native-asks : goal.invariant-asks::end_of_native-asks

@@ -133,7 +133,8 @@ returns-in-Asks g c =
           c.call_native.ensures.before c.requires.begins.inside (read_write dynamic.Unit) refl
           c.in-Asks.asked (rest.Show t next) refl
           (c.requires.begins, refl, refl, refl)
-          (rw c.in-Asks.is at did))
+          (rw c.in-Asks.is at did) c.wait.new.self c.wait.result c.wait.ensures.after
+          c.wait.ensures.waits)
           (λ stop u place bound. shows (stopped m stop) (frame_in f s place)
           (world (abstraction s c.args.steps.now host) u) next v h t found.0 found.1
           (c.in_ok-type_name.ensures v read));

@@ -196,7 +196,8 @@ returns-in-Asks g c =
           c.args.assignment h c.in-Asks.asked c.keep_lent-lent.result c.keep_lent-lent.new.self
           plain c.requires.can c.call_lent.ensures.again
           (c.call_lent.ensures.writable c.requires.writable) c.keep_lent-lent.ensures
-          (rw c.in-Asks.is at did))
+          (rw c.in-Asks.is at did) c.wait.new.self c.wait.result c.wait.ensures.after
+          c.wait.ensures.waits)
           (λ stop w place bound. lent_at (stopped m stop) t place
           (assigned_name p c.args.assignment.variable) a h u v next (frame_in f s place)
           (world (abstraction s c.args.steps.now c.args.host.now) w) plain);

@@ -132,7 +132,8 @@ returns-in-Asks g c =
             refl,
             refl,
             refl,
-          ) (rw c.in-Asks.is at did);
+          ) (rw c.in-Asks.is at did) c.wait.new.self c.wait.result c.wait.ensures.after
+          c.wait.ensures.waits;
     }
 
 pub returns-in_err-arguments : goal.returns-in_err-arguments

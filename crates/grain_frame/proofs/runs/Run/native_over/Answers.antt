@@ -14,7 +14,7 @@ returns-in-Ok g c = rw c.in-Ok.is (record {
   implements = λ takes gives targets h leads plain.
       led_so c.value_came.result c.of.result c.of.ensures
       (c.value_came.ensures.implements takes gives targets c.args.host.now leads);
-  less = less_led c.args.rest c.value_came.result c.of.result c.of.ensures;
+  less = less_led c.args.rest c.value_came.result c.of.result _ c.of.ensures;
 })
 
 pub returns-in-Assign : goal.returns-in-Assign
@@ -83,5 +83,5 @@ returns g c =
           (waits_as (led_exactly c.showing_failed.result c.of-in-Show.result c.of-in-Show.ensures
           (c.showing_failed.ensures.implements c.args.host.now))
           (λ stop u place bound. rw not_out refl));
-      less = less_led (rest.Show c.in-Show.type_name c.in-Show.next) c.showing_failed.result c.of-in-Show.result c.of-in-Show.ensures;
+      less = less_led (rest.Show c.in-Show.type_name c.in-Show.next) c.showing_failed.result c.of-in-Show.result _ c.of-in-Show.ensures;
     })

@@ -65,7 +65,7 @@ returns-in_err-value g c =
           (λ stop w place bound. operator_is_native (stopped m stop) (home_of t place)
           (assigned_name p c.args.assignment.variable) op h u v next (frame_in f s place)
           (world (abstraction s c.args.steps.now c.args.host.now) w) plain);
-      less = less_out (rest.Assign c.args.assignment) c.from_residual-in_err-value.result out;
+      less = less_out (rest.Assign c.args.assignment) c.from_residual-in_err-value.result _ out;
     }
 
 pub returns-in-Fault : goal.returns-in-Fault
@@ -162,7 +162,7 @@ returns-in-Value g c =
           (λ stop w place bound. operator_is_native (stopped m stop) (home_of t place)
           (assigned_name p c.args.assignment.variable) op h u v next (frame_in f s place)
           (world (abstraction s c.args.steps.now c.args.host.now) w) plain);
-      less = less_led (rest.Assign c.args.assignment) c.assign_answer.result c.of.result c.of.ensures;
+      less = less_led (rest.Assign c.args.assignment) c.assign_answer.result c.of.result _ c.of.ensures;
     }
 
 pub returns-in-Asks : goal.returns-in-Asks
@@ -199,11 +199,12 @@ returns-in-Asks g c =
           c.call_native.new.steps c.args.host.now c.call_native.new.host
           c.call_native.ensures.run c.call_native.ensures.before c.requires.can.inside h plain
           c.in-Asks.asked (rest.Operate c.args.assignment) refl
-          (c.requires.can, refl, refl, refl) (rw c.in-Asks.is at did))
+          (c.requires.can, refl, refl, refl) (rw c.in-Asks.is at did) c.wait.new.self
+          c.wait.result c.wait.ensures.after c.wait.ensures.waits)
           (λ stop w place bound. operator_is_native (stopped m stop) (home_of t place)
           (assigned_name p c.args.assignment.variable) op h u v next (frame_in f s place)
           (world (abstraction s c.args.steps.now c.args.host.now) w) plain);
-      less = omega arith;
+      less = rw (c.wait.ensures.waits, c.wait.ensures.after) (omega arith);
     }
 
 pub returns-in_err-push_content : goal.returns-in_err-push_content
@@ -224,7 +225,7 @@ returns-in_err-push_content g c =
           (kept_operand c.args.assignment.kept s.stacks.operands)
           c.args.assignment.next (frame_in f s place)
           (world (abstraction s c.args.steps.now c.args.host.now) w) halts)));
-      less = less_out (rest.Assign c.args.assignment) c.from_residual.result out;
+      less = less_out (rest.Assign c.args.assignment) c.from_residual.result _ out;
     }
 
 pub returns-in_err-push : goal.returns-in_err-push
@@ -245,7 +246,7 @@ returns-in_err-push g c =
           (kept_operand c.args.assignment.kept s.stacks.operands)
           c.args.assignment.next (frame_in f s place)
           (world (abstraction s c.args.steps.now c.args.host.now) w) halts)));
-      less = less_out (rest.Assign c.args.assignment) c.from_residual-in_err-push.result out;
+      less = less_out (rest.Assign c.args.assignment) c.from_residual-in_err-push.result _ out;
     }
 
 pub returns-in_err-sought : goal.returns-in_err-sought
@@ -266,7 +267,7 @@ returns-in_err-sought g c =
           (kept_operand c.args.assignment.kept s.stacks.operands)
           c.args.assignment.next (frame_in f s place)
           (world (abstraction s c.args.steps.now c.args.host.now) w) halts)));
-      less = less_out (rest.Assign c.args.assignment) c.from_residual-in_err-sought.result out;
+      less = less_out (rest.Assign c.args.assignment) c.from_residual-in_err-sought.result _ out;
     }
 
 pub assign_answer-requires : goal.assign_answer-requires
