@@ -1,5 +1,5 @@
 -- An instruction that waits for this native, and the run before the native is taken out of it.
-use Rattle.std.proofs.Common.{◌≡◌, ◌∙◌, ℕ, List, Option, Some, None, false, Result, Ok, refl, sym, subst}
+use Rattle.std.proofs.Common.{◌≡◌, ◌∙◌, ℕ, List, Option, Some, IfSome, false, Result, Ok, refl, sym, subst}
 use Rattle.grain_value.specs.declared.memory.OutOfMemory.{OutOfMemory}
 use Rattle.grain_value.specs.declared.scopes.Entry.{Entry}
 use Rattle.grain_value.specs.declared.values.Dynamic.{Dynamic}
@@ -45,15 +45,21 @@ pub record WaitsAt {H : Type 0} (m : Setup H) (a : Moment H) (rule : Computation
   pub lands : LandsWaiting m a b targets takes gives handlers w
   pub before : b.counts.before ≡ a.counts.before
 
+-- what is so of the value that there is
+pub of_some : {A : Type 0} {P : A → Type 0} {x : Option A} {a : A} → x ≡ Some a → IfSome x P → P a
+of_some {P = P} is so = subst (λ y. IfSome y P) is so
+
+pub for_some : {A : Type 0} {P : A → Type 0} {x : Option A} {a : A} → x ≡ Some a → P a → IfSome x P
+for_some {P = P} is so = subst (λ y. IfSome y P) (sym is) so
+
+lands_at : {H : Type 0} (m : Setup H) (a b : Moment H) (ts : List ℕ) (takes gives : ℕ)
+    (hs : List Handler) (v w : Waiting) → Some v ≡ Some w →
+    LandsWaiting m a b ts takes gives hs v → LandsWaiting m a b ts takes gives hs w
+lands_at m a b ts takes gives hs v w is lands =
+    of_some {P = λ x. LandsWaiting m a b ts takes gives hs x} is lands
+
 module _ {H : Type 0} {m : Setup H} {a b : Moment H} {rule : Computation H} {ts : List ℕ}
     {takes gives : ℕ} {hs : List Handler} where
-  lands_at : (v w : Waiting) → Some v ≡ Some w → LandsWaiting m a b ts takes gives hs v →
-      LandsWaiting m a b ts takes gives hs w
-  lands_at v w is lands = subst Lands is lands where
-    Lands : Option Waiting → Type 0
-    Lands None = Unit {0}
-    Lands (Some x) = LandsWaiting m a b ts takes gives hs x
-
   -- what came of it is that it waits, and the run has this native
   pub waits_at : (w : Waiting) → b.run.waiting ≡ Some w →
       ImplementsOrWaits m a rule ts takes gives hs (Ok performed.Waits) b →
@@ -66,7 +72,7 @@ module _ {H : Type 0} {m : Setup H} {a b : Moment H} {rule : Computation H} {ts 
         (λ n place v. waits_continuation does.held x b.run (frame_in b.frame b.run) n place v)) has
         does.same;
     kept = does.kept;
-    lands = lands_at does.lands.0 w (sym does.lands.1 ∙ has) does.lands.2;
+    lands = lands_at m a b ts takes gives hs does.lands.0 w (sym does.lands.1 ∙ has) does.lands.2;
     before = does.before;
   }
 

@@ -1,5 +1,5 @@
 -- A call of a name that no function has: the native of that name is called, and goes on until it is over.
-use Rattle.std.proofs.Common.{◌≡◌, ◌∙◌, ◌≤◌, ◌+◌, ◌-◌, ℕ, List, [], ◌∷◌, Option, Some, None, Bool, true, false, Result, Ok, Err, inl, inr, length, nat_lt, refl, ap, subst, arith}
+use Rattle.std.proofs.Common.{◌≡◌, ◌∙◌, ◌≤◌, ◌+◌, ◌-◌, ℕ, List, [], ◌∷◌, Option, Some, None, IfSome, Bool, true, false, Result, Ok, Err, inl, inr, length, nat_lt, refl, ap, subst, arith}
 use Rattle.std.specs.Prelude.{if◌then◌else◌}
 use Rattle.grain_value.specs.Cells.{flat}
 use Rattle.grain_value.specs.Looking.{pointer_of}
@@ -39,7 +39,7 @@ use Rattle.grain_vm.specs.Asks.{Awaits}
 use Rattle.grain_vm.specs.Finding.{Finds}
 use Rattle.grain_vm.specs.Methods.{NoneAbove}
 use Rattle.grain_vm.specs.declared.finding.Found.{Found}
-use Rattle.grain_vm.proofs.Awaiting.{waits_at}
+use Rattle.grain_vm.proofs.Awaiting.{of_some, waits_at}
 use Rattle.grain_vm.proofs.Turns.{kept_bound, none_on}
 
 -- ---- an instruction that waits, and then goes on
@@ -126,7 +126,7 @@ module _ {H : Type 0} {m : Setup H} {a b : Moment H} {rule : Computation H} {ts 
       r c) → ImplementsBound m a rule ts takes gives hs r c
   waited {c} r goes =
       let at = waits_at waits.lands.0 waits.lands.1 waits in
-      let did = (rw waits.lands.1 at goes) at.held takes gives ts at.plain at.lands.0 in
+      let did = (of_some waits.lands.1 goes) at.held takes gives ts at.plain at.lands.0 in
       record {
         same = compose {one = false} at.same did.same tt;
         kept = kept_through a.frame b.frame c.frame a.run b.run c.run waits.kept did.kept;

@@ -1,5 +1,5 @@
 -- An instruction that waits for a native, one native after another.
-use Rattle.std.proofs.Common.{◌≡◌, ◌∙◌, ◌≤◌, ℕ, List, Option, Some, None, Bool, true, false, inl, inr, Result, Ok, Err, length, refl, sym, ap, subst, arith}
+use Rattle.std.proofs.Common.{◌≡◌, ◌∙◌, ◌<◌, ◌≤◌, ℕ, List, Option, Some, None, Bool, true, false, inl, inr, Result, Ok, Err, length, refl, sym, ap, subst, arith}
 use Rattle.grain_value.specs.declared.memory.OutOfMemory.{OutOfMemory}
 use Rattle.grain_value.specs.declared.values.Dynamic.{Dynamic}
 use Rattle.grain_value.specs.declared.values.Held.{Held}
@@ -16,6 +16,7 @@ use Rattle.grain_means.specs.lemmas.Stretches.{compose, same, stays}
 use Rattle.grain_chain.specs.Walking.{is_want, outcome_of}
 use Rattle.grain_frame.specs.Abstraction.{ContinuesAt, ImplementsBound, Moment, Progresses, abstraction, frame_in, is_out, moment, this_of}
 use Rattle.grain_frame.specs.Natives.{IsAt}
+use Rattle.grain_frame.specs.Rests.{WaitsLess, awaits_left, waits_left}
 use Rattle.grain_frame.specs.Targets.{home_of}
 use Rattle.grain_frame.specs.Waiting.{ImplementsOrWaits, LandsOrWaits, LeadsTo, Lends, answer_of, asking, performed_of, rest_of, state_after}
 use Rattle.grain_frame.specs.declared.activations.Activation.{Activation}
@@ -28,7 +29,7 @@ use Rattle.grain_frame.specs.declared.waiting.Performed.TheVariants as performed
 use Rattle.grain_frame.specs.declared.waiting.Waiting.{Waiting}
 use Rattle.grain_vm.specs.Asks.{EndsNative, IsWaiting, NativeOver}
 use Rattle.grain_vm.specs.Methods.{NoneAbove}
-use Rattle.grain_vm.proofs.Awaiting.{WaitsAt, waits_at}
+use Rattle.grain_vm.proofs.Awaiting.{WaitsAt, of_some, waits_at}
 use Rattle.grain_vm.proofs.Turns.{none_on}
 use Rattle.grain_vm.proofs.Waited.{kept_on, kept_over, leads_inside, leads_over, rests_out, same_answer, same_frame, state_back, state_here}
 
@@ -383,3 +384,33 @@ next_awaits {H = H} {m} {a} {b} {c} {first} {w} {q} {s'} {n'} {host'} o left {r}
       has = does.lands.1;
       waits = waits_next o left was over ended at before want is does.lands.1 then;
     }
+
+-- and it waits less often than before
+pub less_awaits : {H : Type 0} {m : Setup H} {a b c : Moment H} {first w : Waiting} {s' : Run H}
+    {n' : StepsView} {host' : H} (o : Result Dynamic EvalAltResult) {r : Performed} →
+    b.run.waiting ≡ Some w → WaitsSo m a first w b → NativeOver w.lent b.run s' →
+    r ≡ performed.Waits →
+    ((takes gives : ℕ) (targets : List ℕ) (h : Held) →
+    LeadsTo m.program b.frame s' w.rest takes gives targets → h.read_only ≡ false →
+    ImplementsOrWaits m (moment b.frame s' n' host')
+    (λ m place v. rest_of h w.rest (frame_in b.frame s') m place (answer_of o) v) targets takes
+    gives s'.stacks.handlers (Ok r) c) → WaitsLess w.rest (Ok r) c.run.waiting →
+    awaits_left c.run.waiting < awaits_left b.run.waiting
+less_awaits {H = H} {m} {a} {b} {c} {first} {w} {s'} {n'} {host'} o {r} has was over is then less =
+    let waits = was.waits in
+    let leads = leads_over m.program b.frame b.run s' w.lent over w.rest waits.takes waits.gives
+    waits.targets waits.lends waits.leads in
+    let does : ImplementsOrWaits m (moment b.frame s' n' host')
+    (λ m place v. rest_of (read_write dynamic.Unit) w.rest (frame_in b.frame s') m place
+    (answer_of o) v) waits.targets waits.takes waits.gives s'.stacks.handlers
+    (Ok performed.Waits) c =
+    subst (λ (x : Performed). ImplementsOrWaits m (moment b.frame s' n' host')
+    (λ m place v. rest_of (read_write dynamic.Unit) w.rest (frame_in b.frame s') m place
+    (answer_of o) v) waits.targets waits.takes waits.gives s'.stacks.handlers (Ok x) c) is
+    (then waits.takes waits.gives waits.targets (read_write dynamic.Unit) leads refl) in
+    let next = does.lands.0 in
+    let fewer : waits_left next.rest < waits_left w.rest =
+    of_some {P = λ (x : Waiting). waits_left x.rest < waits_left w.rest} does.lands.1
+    (subst (λ (x : Performed). WaitsLess w.rest (Ok x) c.run.waiting) is less) in
+    subst (λ (x : Option Waiting). awaits_left x < awaits_left b.run.waiting) (sym does.lands.1)
+    (subst (λ (x : Option Waiting). waits_left next.rest < awaits_left x) (sym has) fewer)

@@ -282,18 +282,20 @@ pub(crate) fn resume_caller<H: Host, L: Ledger>(
     ensures before { steps.new.before ≡ steps.old.before }
 {
     match end {
-        Ok(FrameEnd::Value) => {
-            run.saved.restore(&mut run.scope);
-            run.level -= 1;
-            run.stacks.leave_with_value();
-            frame.address = next;
-            steps.mark();
-            Ok(Progress::Continues)
-        }
-        Ok(FrameEnd::Fault) => {
-            leave_call(run);
-            propagate(run, context, steps, frame.address, function)
-        }
+        Ok(end) => match end {
+            FrameEnd::Value => {
+                run.saved.restore(&mut run.scope);
+                run.level -= 1;
+                run.stacks.leave_with_value();
+                frame.address = next;
+                steps.mark();
+                Ok(Progress::Continues)
+            }
+            FrameEnd::Fault => {
+                leave_call(run);
+                propagate(run, context, steps, frame.address, function)
+            }
+        },
         Err(e) => {
             leave_call(run);
             Err(e)

@@ -14,8 +14,8 @@ use Rattle.grain_vm.proofs.ChainAhead.{chain_stepped}
 use Rattle.grain_vm.proofs.ReceiverAhead.{receiver_stepped}
 use Rattle.grain_vm.proofs.Waited.{leads_over}
 use Rattle.grain_vm.proofs.WaitsAhead.{waits_stepped}
-use Rattle.grain_vm.proofs.Awaiting.{ends_from, over_from}
-use Rattle.grain_vm.proofs.WaitsOn.{led_to, next_awaits, out_back, over_on, over_out, waits_first, waits_for}
+use Rattle.grain_vm.proofs.Awaiting.{ends_from, for_some, over_from}
+use Rattle.grain_vm.proofs.WaitsOn.{led_to, less_awaits, next_awaits, out_back, over_on, over_out, waits_first, waits_for}
 use Rattle.grain_vm.proofs.Running.{around_caught, around_on, caught_on, done_after, done_from, done_so, led, left_around, left_around_by_fault, left_around_by_memory, runs_here, runs_on, stops_by_fault, stops_by_memory, stops_so, turn_falls}
 use Rattle.grain_vm.proofs.BoundFrames.{all_still, unbound_above}
 use Rattle.grain_vm.proofs.MethodOvers.{called_one, method_ran, method_refused}
@@ -984,7 +984,7 @@ asks::wait_for_native-returns-then-is_out g t c =
     c.natives.host ended.result.0 ended.result.1 ended.new.run ended.new.steps ended.new.host
     (rw c.take_waiting.ensures.after at ended.ensures.ends) in
     record {
-      goes = rw c.natives.invariant.begins (λ h takes gives targets plain leads.
+      goes = for_some c.natives.invariant.begins (λ h takes gives targets plain leads.
           over_out {m = m} b w c.position-pos.result ended.new.run ended.new.steps
           ended.new.host ended.result.0 ended.result.1 was.waits.lends over
           ends (λ place. sym c.position-pos.ensures) ended.ensures.before
@@ -1005,7 +1005,7 @@ asks::wait_for_native-returns-in_err-progress g t c =
     (rw c.take_waiting.ensures.after at ended.ensures.ends) in
     let out : is_out c.from_residual.result ≡ true = search rules in
     record {
-      goes = rw c.natives.invariant.begins (λ h takes gives targets plain leads.
+      goes = for_some c.natives.invariant.begins (λ h takes gives targets plain leads.
           out_back c.in_err-progress.field-0.0 c.from_residual.result out
           (over_on {m = m} b w c.position-pos.result ended.new.run ended.new.steps
           ended.new.host ended.result.0 ended.result.1 was.waits.lends over
@@ -1027,7 +1027,7 @@ asks::wait_for_native-returns-in-Leads g t c =
     c.natives.host ended.result.0 ended.result.1 ended.new.run ended.new.steps ended.new.host
     (rw c.take_waiting.ensures.after at ended.ensures.ends) in
     record {
-      goes = rw c.natives.invariant.begins (λ h takes gives targets plain leads.
+      goes = for_some c.natives.invariant.begins (λ h takes gives targets plain leads.
           led_to c.in-Leads.is
           (over_on {m = m} b w c.position-pos.result ended.new.run ended.new.steps
           ended.new.host ended.result.0 ended.result.1 was.waits.lends over
@@ -1057,6 +1057,23 @@ asks::wait_for_native-natives-preserved g t c =
     ended.result.1 now.begins was over ends
     (λ place. sym c.position-pos.ensures) ended.ensures.before
     (sym c.is_out.ensures ∙ c.if-is_out.false) c.in-Waits.is c.in_ok-progress.ensures.implements
+
+pub asks::wait_for_native-natives-smaller : goal.asks::wait_for_native-natives-smaller
+asks::wait_for_native-natives-smaller g t c =
+    let m = setup g.H.Host.law c.args.context.program.now c.args.context.engine.now in
+    let ended = c.end_of_native-outcome in
+    let went = c.native_over.new in
+    let w = c.in-Some.waiting in
+    let has = sym c.take_waiting.ensures.value ∙ c.in-Some.is in
+    let over = over_from c.natives.run None w.lent ended.new.run
+    (rw c.take_waiting.ensures.after at ended.ensures.over) in
+    less_awaits {m = m}
+    {a = moment c.args.frame.now c.args.run.now c.args.steps.now c.args.host.now}
+    {b = moment c.natives.frame c.natives.run c.natives.steps c.natives.host}
+    {c = moment went.frame went.self went.steps went.host} {w = w} {s' = ended.new.run}
+    {n' = ended.new.steps} {host' = ended.new.host} ended.result.0 has
+    (waits_for c.natives.invariant w has) over c.in-Waits.is
+    c.in_ok-progress.ensures.implements c.in_ok-progress.ensures.less
 
 -- ---- natives that are called on a receiver
 

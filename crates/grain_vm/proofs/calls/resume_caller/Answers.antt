@@ -5,9 +5,9 @@ use Rattle.grain_vm.specs.Calls.{caller_of}
 use Rattle.grain_vm.proofs.Calling.{memory_passes}
 use Rattle.grain_vm.proofs.calls.resume_caller.Goals as goal
 
-pub returns-in-Ok-Fault-clause-same : goal.returns-in-Ok-Fault-clause-same
-returns-in-Ok-Fault-clause-same g c = λ host.
-    rw c.in-Ok-Fault.is
+pub returns-in-Fault-clause-same : goal.returns-in-Fault-clause-same
+returns-in-Fault-clause-same g c = λ host.
+    rw (c.in-Ok.is, c.in-Fault.is)
     (rw c.leave_call.ensures at (c.propagate.ensures.same c.args.frame.now host refl))
 
 pub returns-in-Err-clause-same : goal.returns-in-Err-clause-same
