@@ -46,17 +46,17 @@ pub record WaitsAt {H : Type 0} (m : Setup H) (a : Moment H) (rule : Computation
   pub before : b.counts.before ≡ a.counts.before
 
 -- what is so of the value that there is
-pub of_some : {A : Type 0} {P : A → Type 0} {x : Option A} {a : A} → x ≡ Some a → IfSome x P → P a
-of_some {P = P} is so = subst (λ y. IfSome y P) is so
+pub of_some : {A : Type 0} (P : A → Type 0) {x : Option A} {a : A} → x ≡ Some a → IfSome x P → P a
+of_some P is so = subst (λ y. IfSome y P) is so
 
-pub for_some : {A : Type 0} {P : A → Type 0} {x : Option A} {a : A} → x ≡ Some a → P a → IfSome x P
-for_some {P = P} is so = subst (λ y. IfSome y P) (sym is) so
+pub for_some : {A : Type 0} (P : A → Type 0) {x : Option A} {a : A} → x ≡ Some a → P a → IfSome x P
+for_some P is so = subst (λ y. IfSome y P) (sym is) so
 
 lands_at : {H : Type 0} (m : Setup H) (a b : Moment H) (ts : List ℕ) (takes gives : ℕ)
     (hs : List Handler) (v w : Waiting) → Some v ≡ Some w →
     LandsWaiting m a b ts takes gives hs v → LandsWaiting m a b ts takes gives hs w
 lands_at m a b ts takes gives hs v w is lands =
-    of_some {P = λ x. LandsWaiting m a b ts takes gives hs x} is lands
+    of_some (λ x. LandsWaiting m a b ts takes gives hs x) is lands
 
 module _ {H : Type 0} {m : Setup H} {a b : Moment H} {rule : Computation H} {ts : List ℕ}
     {takes gives : ℕ} {hs : List Handler} where
@@ -72,7 +72,16 @@ module _ {H : Type 0} {m : Setup H} {a b : Moment H} {rule : Computation H} {ts 
         (λ n place v. waits_continuation does.held x b.run (frame_in b.frame b.run) n place v)) has
         does.same;
     kept = does.kept;
-    lands = lands_at m a b ts takes gives hs does.lands.0 w (sym does.lands.1 ∙ has) does.lands.2;
+    lands = lands_at m a b ts takes gives hs does.lands.0 w (sym does.lands.1 ∙ has) (
+      does.lands.2,
+      does.lands.3,
+      does.lands.4,
+      does.lands.5,
+      does.lands.6,
+      does.lands.7,
+      does.lands.8,
+      does.lands.9,
+    );
     before = does.before;
   }
 

@@ -126,7 +126,7 @@ module _ {H : Type 0} {m : Setup H} {a b : Moment H} {rule : Computation H} {ts 
       r c) → ImplementsBound m a rule ts takes gives hs r c
   waited {c} r goes =
       let at = waits_at waits.lands.0 waits.lands.1 waits in
-      let did = (of_some waits.lands.1 goes) at.held takes gives ts at.plain at.lands.0 in
+      let did = (of_some _ waits.lands.1 goes) at.held takes gives ts at.plain at.lands.0 in
       record {
         same = compose {one = false} at.same did.same tt;
         kept = kept_through a.frame b.frame c.frame a.run b.run c.run waits.kept did.kept;

@@ -66,5 +66,5 @@ module _ {H : Type 0} (law : Law H) (p : View) (engine : Engine) (a b : Moment H
       let does = it_waits.5 in
       let at = waits_at does.lands.0 does.lands.1 does in
       arm_bound {o = o} refl it_waits.3 it_waits.2 it_waits.4 runs (waited at
-      ((of_some does.lands.1 goes) at.held (takes_of p o) (gives_of o) (leads_of p o it_waits.1)
+      ((of_some _ does.lands.1 goes) at.held (takes_of p o) (gives_of o) (leads_of p o it_waits.1)
       at.plain at.lands.0))

@@ -410,7 +410,7 @@ less_awaits {H = H} {m} {a} {b} {c} {first} {w} {s'} {n'} {host'} o {r} has was 
     (then waits.takes waits.gives waits.targets (read_write dynamic.Unit) leads refl) in
     let next = does.lands.0 in
     let fewer : waits_left next.rest < waits_left w.rest =
-    of_some {P = λ (x : Waiting). waits_left x.rest < waits_left w.rest} does.lands.1
+    of_some (λ (x : Waiting). waits_left x.rest < waits_left w.rest) does.lands.1
     (subst (λ (x : Performed). WaitsLess w.rest (Ok x) c.run.waiting) is less) in
     subst (λ (x : Option Waiting). awaits_left x < awaits_left b.run.waiting) (sym does.lands.1)
     (subst (λ (x : Option Waiting). waits_left next.rest < awaits_left x) (sym has) fewer)

@@ -984,7 +984,7 @@ asks::wait_for_native-returns-then-is_out g t c =
     c.natives.host ended.result.0 ended.result.1 ended.new.run ended.new.steps ended.new.host
     (rw c.take_waiting.ensures.after at ended.ensures.ends) in
     record {
-      goes = for_some c.natives.invariant.begins (λ h takes gives targets plain leads.
+      goes = for_some _ c.natives.invariant.begins (λ h takes gives targets plain leads.
           over_out {m = m} b w c.position-pos.result ended.new.run ended.new.steps
           ended.new.host ended.result.0 ended.result.1 was.waits.lends over
           ends (λ place. sym c.position-pos.ensures) ended.ensures.before
@@ -1005,7 +1005,7 @@ asks::wait_for_native-returns-in_err-progress g t c =
     (rw c.take_waiting.ensures.after at ended.ensures.ends) in
     let out : is_out c.from_residual.result ≡ true = search rules in
     record {
-      goes = for_some c.natives.invariant.begins (λ h takes gives targets plain leads.
+      goes = for_some _ c.natives.invariant.begins (λ h takes gives targets plain leads.
           out_back c.in_err-progress.field-0.0 c.from_residual.result out
           (over_on {m = m} b w c.position-pos.result ended.new.run ended.new.steps
           ended.new.host ended.result.0 ended.result.1 was.waits.lends over
@@ -1027,7 +1027,7 @@ asks::wait_for_native-returns-in-Leads g t c =
     c.natives.host ended.result.0 ended.result.1 ended.new.run ended.new.steps ended.new.host
     (rw c.take_waiting.ensures.after at ended.ensures.ends) in
     record {
-      goes = for_some c.natives.invariant.begins (λ h takes gives targets plain leads.
+      goes = for_some _ c.natives.invariant.begins (λ h takes gives targets plain leads.
           led_to c.in-Leads.is
           (over_on {m = m} b w c.position-pos.result ended.new.run ended.new.steps
           ended.new.host ended.result.0 ended.result.1 was.waits.lends over
