@@ -1,9 +1,7 @@
-//! Tests of the public calls of values, faults, operators, the engine, stacks and the host in
-//! memory: what no contract says.
+//! Tests of the public calls of faults, operators, the engine and the host in memory, and of the texts
+//! and sizes of values: what no contract says.
 #![tactic(auto)]
 
-#[cfg(test)]
-mod cursors;
 #[cfg(test)]
 mod fault;
 #[cfg(test)]
@@ -17,6 +15,6 @@ mod ops;
 #[cfg(test)]
 mod raised;
 #[cfg(test)]
-mod stack;
+mod sizes;
 #[cfg(test)]
-mod value;
+mod written;

@@ -1,6 +1,6 @@
 //! Cursors over values, and cursors and totals of frames, with memory enough.
 
-use crate::made::value_of;
+use crate::made::{array_of, blob_of, text_of};
 use grain_stack::{Cursor, Stacks, Total};
 use grain_value::Dynamic;
 use std::process::Abort;
@@ -20,13 +20,13 @@ fn check_integers(rt: &impl Abort, cursor: &mut Cursor, integers: &[i64]) {
 
 #[test]
 fn bytes_are_given_as_integers(rt: HostRuntime) {
-    let mut bytes = over(&rt, value_of(&rt, rt.alloc(), "blob 0 255"));
+    let mut bytes = over(&rt, blob_of(&rt, rt.alloc(), &[0, 255]));
     check_integers(&rt, &mut bytes, &[0, 255]);
 }
 
 #[test]
 fn values_of_a_list_are_given(rt: HostRuntime) {
-    let mut values = over(&rt, value_of(&rt, rt.alloc(), "array 3, 4"));
+    let mut values = over(&rt, array_of(&rt, rt.alloc(), &[3, 4]));
     check_integers(&rt, &mut values, &[3, 4]);
 }
 
@@ -59,7 +59,8 @@ fn check_character(rt: &impl Abort, cursor: &mut Cursor, character: char) {
 
 #[test]
 fn characters_are_given_whole(rt: HostRuntime) {
-    let mut text = over(&rt, value_of(&rt, rt.alloc(), "text aé€😀"));
+    let text = Dynamic::Text(text_of(&rt, rt.alloc(), "aé€😀"));
+    let mut text = over(&rt, text);
     check_character(&rt, &mut text, 'a');
     check_character(&rt, &mut text, 'é');
     check_character(&rt, &mut text, '€');

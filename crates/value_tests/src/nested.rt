@@ -1,7 +1,7 @@
 //! How deep values nest.
 
-use super::paths::replaced_at;
 use crate::made::quoted;
+use crate::paths::replaced_at;
 use grain_value::{
     Array, Dynamic, MOST_LEVELS, Map, OutOfMemory, Path, PathStep, Store, Text, calc_data_sizes,
 };
