@@ -24,7 +24,7 @@ counted_value cells value operations = codes "value " ++ quoted (seen cells valu
     codes " operations " ++ decimal operations ++ line_end
 
 -- what is written of a value after this was printed: that and the value's report; or, where operations are
--- told, the value and how many there were
+-- told, the value and how many there were, without what was printed
 abbrev pub told_value : Bool → List ℕ → List Cell → Dynamic → ℕ → List ℕ
 told_value false printed cells value operations = printed ++ report_value cells value
 told_value true printed cells value operations = counted_value cells value operations

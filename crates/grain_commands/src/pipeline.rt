@@ -104,7 +104,7 @@ fn run_program<L: Ledger>(
     run_in(alloc, vm, program, host, scope, told, steps)
 }
 
-/// The same with a program that is given away.
+/// The same; it takes the program.
 fn run_verified<L: Ledger>(
     alloc: Global,
     program: Program,

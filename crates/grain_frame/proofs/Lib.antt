@@ -4,7 +4,6 @@ mod AssignedEntries
 mod Flattening
 mod Currying
 mod Serving
-mod Jumping
 mod Handing
 mod Targeting
 mod Refusing

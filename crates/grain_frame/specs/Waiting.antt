@@ -105,8 +105,8 @@ rest_of g r f m place a w =
     native_over (leave_by_fault m (f place) NoMemory) (value_rest r f m place)
     (fault_rest g r f m place) a w
 
--- what the native of an instruction that waits asks for, and what then follows; what is lent stands
--- apart nowhere. In a run that has no such instruction nothing is said by it.
+-- What the native of an instruction that waits asks for, and what then follows; what is lent is never
+-- `Loan::Apart`. A run without such an instruction does not occur (`LandsOrWaits`).
 abbrev pub waits_continuation : {H : Type 0} → Held → Option Waiting → Run H →
     (Option Place → Frame) → Computation H
 waits_continuation g (Some w) s f m place v =
@@ -216,7 +216,8 @@ LeadsTo p f s (rest.Operate a) takes gives targets =
 LeadsTo p f s (rest.Show type_name next) takes gives targets =
     CanBegin f s 2 1 next × (takes ≡ 2) × (gives ≡ 1) × (targets ≡ next ∷ [])
 
--- where an instruction leads, or how it goes on once its native is over
+-- Where an instruction leads, or how it goes on once its native is over. One that waits has changed neither
+-- its frame nor its operands, cursors and handlers.
 abbrev pub LandsOrWaits : {H : Type 0} → Setup H → Moment H → Moment H → List ℕ →
     (takes gives : ℕ) → List Handler → Result Performed OutOfMemory → Type 0
 LandsOrWaits m a b targets takes gives handlers (Ok (performed.Leads p)) =

@@ -295,9 +295,46 @@ impl<H: Host> Run<H> {
         Ok(map)
     }
 
-    // `check_array_size` and `check_map_size`: the last operand is the element of this number of a
-    // literal, and itself counts as `one`.
-    pub(crate) fn check_size<L: Ledger>(
+    // `check_array_size`: the last operand is the element of this number of an array. Its size is added to
+    // the literal's total, which is tested against the limits.
+    #[inline(always)]
+    pub(crate) fn check_array_size<L: Ledger>(
+        &mut self,
+        context: Context<'_>,
+        steps: &mut Steps<L>,
+        frame: &mut Activation,
+        index: u16,
+        next: usize,
+    ) -> Result<Progress, OutOfMemory>
+        requires ready { Ready frame.old self.old (op.CheckArraySize index) next }
+        ensures performs { (host : H) →
+            Performs (setup_of H.law context.entry) (moment frame.old self.old steps.old host)
+            (op.CheckArraySize index) next result (moment frame.new self.new steps.new host) }
+    {
+        self.check_size(context, steps, frame, (1, 0, 0), index, next)
+    }
+
+    // `check_map_size`: the same of a value of a map.
+    #[inline(always)]
+    pub(crate) fn check_map_size<L: Ledger>(
+        &mut self,
+        context: Context<'_>,
+        steps: &mut Steps<L>,
+        frame: &mut Activation,
+        index: u16,
+        next: usize,
+    ) -> Result<Progress, OutOfMemory>
+        requires ready { Ready frame.old self.old (op.CheckMapSize index) next }
+        ensures performs { (host : H) →
+            Performs (setup_of H.law context.entry) (moment frame.old self.old steps.old host)
+            (op.CheckMapSize index) next result (moment frame.new self.new steps.new host) }
+    {
+        self.check_size(context, steps, frame, (0, 1, 0), index, next)
+    }
+
+    // The last operand is the element of this number of a literal, and itself counts as `one`. Its size is
+    // added to the literal's total, which is tested against the limits.
+    fn check_size<L: Ledger>(
         &mut self,
         context: Context<'_>,
         steps: &mut Steps<L>,

@@ -84,12 +84,8 @@ impl<H: Host> Run<H> {
             Op::CallFnPtrOnThis(_) => unreachable!(),
             Op::MakeArray(count) => self.make_array(context, steps, frame, count, next),
             Op::MakeMap(count) => self.make_map(context, steps, frame, count, next),
-            Op::CheckArraySize(index) => {
-                self.check_size(context, steps, frame, (1, 0, 0), index, next)
-            }
-            Op::CheckMapSize(index) => {
-                self.check_size(context, steps, frame, (0, 1, 0), index, next)
-            }
+            Op::CheckArraySize(index) => self.check_array_size(context, steps, frame, index, next),
+            Op::CheckMapSize(index) => self.check_map_size(context, steps, frame, index, next),
             Op::InterpolateStart => self.interpolate_start(steps, frame, next),
             Op::InterpolateAppend => unreachable!(),
             Op::InterpolateEnd => self.interpolate_end(context, steps, frame, next),

@@ -320,20 +320,21 @@ impl Program {
         slot_among(&self.slots, chains, index as usize, number)
     }
 
-    /// The instruction at which a frame of the chunk stands with depth operands, and with some cursors
-    /// and handlers, and its width in bytes.
+    /// The instruction at which a frame of the chunk stands with some operands, cursors and handlers,
+    /// and its width in bytes.
     #[inline(always)]
-    pub fn fetch(&self, chunk: Chunk, address: usize, depth: usize) -> (Op, usize)
-        requires { (cursors : ℕ) × ((handlers : List TryHandler) × IsTypedAt self.now chunk address
-            depth cursors handlers) }
+    pub fn fetch(&self, chunk: Chunk, address: usize) -> (Op, usize)
+        requires { (depth : ℕ) × ((cursors : ℕ) × ((handlers : List TryHandler) ×
+            IsTypedAt self.now chunk address depth cursors handlers)) }
         ensures read { op_at self.now.code address ≡ Some (result.0, result.1) }
-        ensures provides { Provides self.now chunk address depth result.0 result.1 }
-        ensures verified { (cursors : ℕ) (handlers : List TryHandler) →
+        ensures provides { (depth cursors : ℕ) (handlers : List TryHandler) →
+            IsTypedAt self.now chunk address depth cursors handlers →
+            Provides self.now chunk address depth result.0 result.1 }
+        ensures verified { (depth cursors : ℕ) (handlers : List TryHandler) →
             IsTypedAt self.now chunk address depth cursors handlers →
             Verified self.now chunk address depth cursors handlers result.0 result.1 }
     {
         let _ = chunk;
-        let _ = depth;
         let mut op = Op::Return;
         let width = read_there(&self.parts.code, address, &mut op);
         (op, width)

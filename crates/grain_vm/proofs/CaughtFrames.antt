@@ -20,7 +20,7 @@ use Rattle.grain_means.specs.Simulation.{LocalState, Computation, Simulates, Sim
 use Rattle.grain_means.specs.lemmas.Stretches.{same, compose, before}
 use Rattle.grain_global.specs.StepsView.{StepsView}
 use Rattle.grain_frame.specs.Abstraction.{abstraction, frame_in, handler_in, handlers_in, this_of, try_in, tries_in, is_out, Above, CanCatch, Runs}
-use Rattle.grain_vm.specs.Catching.{found, catch_continuation, activation_at, caught_or_left, stop_continuation, Caught, CaughtAt, CaughtBy, StandsFor}
+use Rattle.grain_vm.specs.Catching.{found, catch_continuation, activation_at, caught_at, caught_or_left, stop_continuation, Caught, CaughtAt, CaughtBy, StandsFor}
 use Rattle.grain_vm.specs.declared.loops.Stop.{Stop}
 use Rattle.grain_vm.specs.declared.loops.Stop.TheVariants as stop
 use Rattle.grain_frame.specs.declared.activations.Activation.{Activation}
@@ -253,13 +253,23 @@ caught_runs p engine c base address floor at low target slot s t u runs room out
       );
     }
 
--- what came of a fault that was offered
-pub offered_so : {H : Type 0} {m : Setup H} {old : LocalState H} {start : Computation H}
+-- where a fault that was offered led
+pub caught_so : {H : Type 0} {m : Setup H} {old : LocalState H} {start : Computation H}
     {new : LocalState H} (f : Option Place → Frame) (x : EvalAltResult) {one other : Option ℕ} →
     one ≡ other → Simulates m old start false new (caught_or_left (Ok one) x f) →
     Simulates m old start false new (caught_or_left (Ok other) x f)
-offered_so {m = m} {old} {start} {new} f x e h =
+caught_so {m = m} {old} {start} {new} f x e h =
     subst (λ (o : Option ℕ). Simulates m old start false new (caught_or_left (Ok o) x f)) e h
+
+-- the same where it is told whether the frame goes on
+pub offered_so : {H : Type 0} {m : Setup H} {old : LocalState H} {start : Computation H}
+    {new : LocalState H} (f : Option Place → Frame) (x : EvalAltResult) (address : ℕ)
+    {one other : Bool} → one ≡ other →
+    Simulates m old start false new (caught_or_left (caught_at (Ok one) address) x f) →
+    Simulates m old start false new (caught_or_left (caught_at (Ok other) address) x f)
+offered_so {m = m} {old} {start} {new} f x address e h =
+    subst (λ (b : Bool). Simulates m old start false new
+    (caught_or_left (caught_at (Ok b) address) x f)) e h
 
 -- a fault was raised in a frame
 pub stopped_at : {H : Type 0} {m : Setup H} {old : LocalState H} {start : Computation H}

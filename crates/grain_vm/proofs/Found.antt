@@ -28,11 +28,8 @@ use Rattle.grain_means.specs.Means.{setup}
 use Rattle.grain_means.specs.lemmas.Stretches.{same, compose}
 use Rattle.grain_global.specs.StepsView.{StepsView}
 use Rattle.grain_frame.specs.Abstraction.{ContinuesAt, ImplementsBound, KeepsFrame, Moment, PerformsBound, Runs, StandsAt, Stepped, abstraction, continuation, frame_in, is_out, moment}
-use Rattle.grain_vm.specs.Attempts.{IsWay}
 use Rattle.grain_vm.specs.Finding.{Finds, FindsFunction, FindsHere, IsCall, found_of}
 use Rattle.grain_frame.specs.declared.activations.Activation.{Activation}
-use Rattle.grain_vm.specs.declared.attempts.Way.{Way}
-use Rattle.grain_vm.specs.declared.attempts.Way.TheVariants as way
 use Rattle.grain_vm.specs.declared.finding.Found.{Found}
 use Rattle.grain_vm.specs.declared.finding.Found.TheVariants as found
 use Rattle.grain_frame.specs.declared.runs.Progress.{Progress}
@@ -256,18 +253,17 @@ found_here law p engine f f' s s' n n' o next host host' (Err e) runs at call di
 
 -- what a call of a function by its name comes to
 pub function_found_so : {H : Type 0} (law : Law H) (p : View) (engine : Engine) (f : Activation)
-    (s : Run H) (n : StepsView) (number next : ℕ) (host : H) (x : Way) →
-    x ≡ way.Function number next → IsWay p f s x →
+    (s : Run H) (n : StepsView) (name count number next : ℕ) (host : H) →
+    StandsAt p f s (op.Call name count) next → Some number ≡ function_of p name count →
+    Called p name count number →
     FindsHere (setup law p engine) (moment f s n host) (Ok (found.Function number next))
     (moment f s n host)
-function_found_so law p engine f s n number next host x is ways =
-    let known = subst (λ (y : Way). IsWay p f s y) is ways in (
-      op.Call known.0 known.1,
-      known.2,
-      record { leads = refl; gives = refl; holds = refl; keeps = refl },
-      named_found law p engine f s n known.0 known.1 next number host known.3 known.4
-          known.2.seen.provides.enough,
-    )
+function_found_so law p engine f s n name count number next host at is called = (
+  op.Call name count,
+  at,
+  record { leads = refl; gives = refl; holds = refl; keeps = refl },
+  named_found law p engine f s n name count next number host is called at.seen.provides.enough,
+)
 
 -- what `call_fn_ptr` comes to
 pub pointer_found : {H : Type 0} (law : Law H) (p : View) (engine : Engine) (f f' : Activation)

@@ -221,9 +221,9 @@ module _ {H : Type 0} (law : Law H) (p : View) (engine : Engine) (f : Activation
 -- an instruction that was read in the code was done, perhaps with the one after it
 pub stepped_on : {H : Type 0} (law : Law H) (p : View) (engine : Engine) (f : Activation) (s : Run
     H)
-    (said o : Op) (width depth : ℕ) → said ≡ o → depth ≡ length s.stacks.operands →
-    Runs p f s →
-    ((cursors : ℕ) (hs : List TryHandler) → IsTypedAt p f.chunk f.address depth cursors hs →
+    (said o : Op) (width : ℕ) → said ≡ o → Runs p f s →
+    ((depth cursors : ℕ) (hs : List TryHandler) →
+    IsTypedAt p f.chunk f.address depth cursors hs →
     Verified p f.chunk f.address depth cursors hs said width) →
     op_at p.code f.address ≡ Some (said, width) → looping_of o ≡ looping.Keep →
     handling_of o ≡ handling.Keep → (n : StepsView)
@@ -231,12 +231,9 @@ pub stepped_on : {H : Type 0} (law : Law H) (p : View) (engine : Engine) (f : Ac
     PerformsOn (setup law p engine) (moment f s n host) o (f.address + width) (moment f' s' n' host)
     →
     Stepped (setup law p engine) (moment f s n host) (Ok progress.Continues) (moment f' s' n' host)
-stepped_on law p engine f s said o width depth is deep runs seen read holds keeps n f' s' n' host
-    (inl does) =
-    stepped law p engine f s said o width depth is deep runs seen read holds keeps n f' s' n' host host
-    does
-stepped_on law p engine f s said o width depth is deep runs seen read holds keeps n f' s' n' host
-    (inr two) =
+stepped_on law p engine f s said o width is runs seen read holds keeps n f' s' n' host (inl does) =
+    stepped law p engine f s said o width is runs seen read holds keeps n f' s' n' host host does
+stepped_on law p engine f s said o width is runs seen read holds keeps n f' s' n' host (inr two) =
     both law p engine f two.frame f' s two.run s' n two.counts n' host
-    (stepped law p engine f s said o width depth is deep runs seen read holds keeps n two.frame two.run
+    (stepped law p engine f s said o width is runs seen read holds keeps n two.frame two.run
     two.counts host host two.first) two.second

@@ -1,10 +1,10 @@
 -- Two loads of integers and the operator after them: neither integer is pushed.
-use Rattle.std.proofs.Common.{◌≡◌, ◌≤◌, ◌+◌, ◌∙◌, ℕ, ℤ, List, [], ◌∷◌, ◌++◌, Bool, length, refl, arith, length-append}
+use Rattle.std.proofs.Common.{◌≡◌, ◌≤◌, ◌+◌, ◌∙◌, ℕ, ℤ, List, [], ◌∷◌, ◌++◌, length, refl, arith, length-append}
 use Rattle.grain_value.specs.declared.values.Held.{Held}
 use Rattle.grain_value.specs.declared.values.Dynamic.TheVariants as dynamic
 use Rattle.grain_value.specs.Operands.{under, read_write}
 use Rattle.grain_frame.specs.declared.runs.Run.{Run}
-use Rattle.grain_vm.specs.Following.{loaded, judged, without_two}
+use Rattle.grain_vm.specs.Following.{loaded, without_two}
 use Rattle.grain_vm.proofs.Branching.{below_pushed}
 use Rattle.grain_vm.proofs.Loading.{under_pushed}
 
@@ -36,10 +36,3 @@ module _ {H : Type 0} (s : Run H) (x y : ℤ) where
   } ≡ loaded s z
   answered_int z =
       rw (under_both s.stacks.operands (read_write (dynamic.Int x)) (read_write (dynamic.Int y))) refl
-
-  -- and a truth value
-  pub judged_length : (truth : Bool) →
-      length (judged (loaded (loaded s x) y) truth).stacks.operands ≡ length s.stacks.operands + 1
-  judged_length truth =
-      rw (under_both s.stacks.operands (read_write (dynamic.Int x)) (read_write (dynamic.Int y)))
-      (length-append s.stacks.operands (read_write (dynamic.Bool truth) ∷ []))

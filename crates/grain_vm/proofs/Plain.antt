@@ -1,8 +1,6 @@
 -- Plain instructions, and what follows where one is not plain.
-use Rattle.std.proofs.Common.{◌≡◌, ◌∙◌, ℕ, true, false, Option, Some, None, Result, Ok, refl, sym, subst, ap}
+use Rattle.std.proofs.Common.{◌≡◌, ◌∙◌, true, false, Option, Some, None, Result, Ok, refl, sym, subst, ap}
 use Rattle.grain_value.specs.declared.memory.OutOfMemory.{OutOfMemory}
-use Rattle.grain_program.specs.Decoding.{op_at}
-use Rattle.grain_program.specs.Lookups.{function_of}
 use Rattle.grain_program.specs.View.{View}
 use Rattle.grain_program.specs.declared.code.instruction_set.Op.{Op}
 use Rattle.grain_program.specs.declared.code.instruction_set.Op.TheVariants as op
@@ -10,12 +8,10 @@ use Rattle.grain_host.specs.Law.{Law}
 use Rattle.grain_global.specs.StepsView.{StepsView}
 use Rattle.grain_global.specs.declared.engines.Engine.{Engine}
 use Rattle.grain_means.specs.Means.{setup}
-use Rattle.grain_means.specs.Rules.{or_return}
-use Rattle.grain_frame.specs.Abstraction.{AsksNothing, IsNoCall, Moment, RunsNoMethod, StandsAt, Stepped, moment}
+use Rattle.grain_frame.specs.Abstraction.{AsksNothing, IsNoCall, Moment, RunsNoMethod, Stepped, moment}
 use Rattle.grain_frame.specs.declared.activations.Activation.{Activation}
 use Rattle.grain_frame.specs.declared.runs.Progress.{Progress}
 use Rattle.grain_frame.specs.declared.runs.Run.{Run}
-use Rattle.grain_vm.specs.Attempts.{CallsNoFunction, CallsNothing}
 use Rattle.grain_vm.specs.Finding.{StepsIfPlain, is_plain}
 
 module _ (o : Op) (plain : is_plain o ≡ true) where
@@ -58,40 +54,3 @@ stepped_from law p engine f f1 s s1 n n1 host host1 c r o none plain did =
     let same = subst (λ (x : Option Progress). StepsIfPlain (setup law p engine)
     (moment f s n host) (Ok x) (moment f1 s1 n1 host1)) none plain in
     rw (same.0, same.1, same.2, same.3) at did
-
--- what calls nothing calls no function
-pub nothing_called : (p : View) (f : Activation) → CallsNothing p f → CallsNoFunction p f
-nothing_called p f nothing = λ o width at. (
-  (λ name count is. absurd ((nothing o width at).0 name count is)),
-  (nothing o width at).1,
-)
-
--- nor does a `call` of a name that no function has
-pub unnamed_called : {H : Type 0} (p : View) (f : Activation) (s : Run H) (name count next : ℕ) →
-    StandsAt p f s (op.Call name count) next → function_of p name count ≡ None →
-    CallsNoFunction p f
-unnamed_called p f s name count next stands none = λ o width at.
-    let same : op.Call name count ≡ o = said o width at in (
-      (λ k n is. called k n (same ∙ is)),
-      (λ n is. let other : op.Call name count ≡ op.CallFnPtr n = same ∙ is in absurd cc),
-    ) where
-      said : (o : Op) (width : ℕ) → op_at p.code f.address ≡ Some (o, width) → op.Call name count ≡ o
-      said o width at =
-          ap (λ (r : Option (Op × ℕ)). (or_return r).0) (sym stands.read ∙ at)
-
-      called : (k n : ℕ) → op.Call name count ≡ op.Call k n → function_of p k n ≡ None
-      called k n is =
-          let a : name ≡ k = cc in
-          let b : count ≡ n = cc in
-          rw (a, b) at none
-
--- what calls no function is no `call_fn_ptr`, and a `call` of a name that no function has
-pub no_pointer : {H : Type 0} (p : View) (f : Activation) (s : Run H) (count next : ℕ) →
-    CallsNoFunction p f → StandsAt p f s (op.CallFnPtr count) next → ⊥
-no_pointer p f s count next calls stands =
-    (calls (op.CallFnPtr count) stands.width stands.read).1 count refl
-
-pub no_function : {H : Type 0} (p : View) (f : Activation) (s : Run H) (name count next : ℕ) →
-    CallsNoFunction p f → StandsAt p f s (op.Call name count) next → function_of p name count ≡ None
-no_function p f s name count next calls stands =
-    (calls (op.Call name count) stands.width stands.read).0 name count refl

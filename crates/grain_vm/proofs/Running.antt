@@ -1,5 +1,5 @@
 -- How far a frame has run since `run_from` began with it, one turn after another.
-use Rattle.std.proofs.Common.{◌≡◌, ◌∙◌, ◌<◌, ◌≤◌, ◌+◌, false, Result, Ok, Err, [], ◌∷◌, ◌++◌, take, true, refl, sym, subst, arith, ℕ, Option, Some, None}
+use Rattle.std.proofs.Common.{◌≡◌, ◌∙◌, ◌<◌, ◌≤◌, ◌+◌, false, Result, Ok, Err, [], ◌∷◌, ◌++◌, take, true, refl, sym, subst, arith, ℕ, Bool, None}
 use Rattle.grain_value.specs.declared.memory.OutOfMemory.{OutOfMemory}
 use Rattle.grain_fault.specs.Problems.{NoMemory, problem_of}
 use Rattle.grain_global.specs.StepsView.{StepsView}
@@ -14,7 +14,7 @@ use Rattle.grain_frame.specs.declared.runs.Progress.TheVariants as progress
 use Rattle.grain_frame.specs.declared.runs.Run.{Run}
 use Rattle.grain_vm.specs.Attempts.{Unchanged}
 use Rattle.grain_vm.specs.Calls.{LeavesAround}
-use Rattle.grain_vm.specs.Catching.{stopped_frame, KeepsRun, StopsSo, stop_continuation, Caught, CaughtAt, activation_at, caught_or_left}
+use Rattle.grain_vm.specs.Catching.{stopped_frame, KeepsRun, StopsSo, stop_continuation, Caught, CaughtAt, GoesOnWith, activation_at, caught_at, caught_or_left}
 use Rattle.grain_vm.specs.Methods.{NoneAbove}
 use Rattle.grain_vm.specs.declared.loops.Stop.TheVariants as stop
 use Rattle.grain_vm.proofs.CaughtFrames.{stopped_at, caught_runs, offered_so, stopped_so}
@@ -241,35 +241,37 @@ module _ {H : Type 0} {m : Setup H} {a b c : Moment H} (so_far : RunsTo m a b) w
 
 -- a fault of the frame was caught, and the frame runs on at the handler's address
 pub caught_on : {H : Type 0} {m : Setup H} {a : Moment H} (c : Chunk)
-    (base address floor target : ℕ) (s t u : Run H) (n k j : StepsView)
-    (host host1 host2 : H) {one : Stop} {said : Option ℕ} →
+    (base address floor target low : ℕ) (s t u : Run H) (n k j : StepsView)
+    (host host1 host2 : H) {one : Stop} {said : Bool} →
     RunsTo m a (moment (activation_at c base address floor None) s n host) →
     one ≡ stop.Fault →
     Simulates m (abstraction s n host)
     (λ m place w. Go (InFrame (frame_in (activation_at c base address floor None) s place)) w) false
     (abstraction t k host1) (stop_continuation (Ok one) c base t) →
-    StopsSo m.program c base t (Ok one) → LeavesAround s n t k → said ≡ Some target →
+    StopsSo m.program c base t (Ok one) → LeavesAround s n t k → said ≡ true →
     Simulates m (abstraction t k host1)
     (λ m place w. offered m (frame_in (stopped_frame c base t) t place)
     (problem_of t.fault) w) false (abstraction u j host2)
-    (caught_or_left (Ok said) u.fault (frame_in (stopped_frame c base t) u)) →
-    Caught m.engine t u (Ok said) →
+    (caught_or_left (caught_at (Ok said) target) u.fault (frame_in (stopped_frame c base t) u)) →
+    Caught m.engine t u (caught_at (Ok said) target) →
     (CanCatch m.program (stopped_frame c base t) t →
-    CaughtAt m.program (stopped_frame c base t) u (Ok said)) →
-    j.before ≡ k.before → RunsTo m a (moment (activation_at c base target t.stopped.floor None) u j host2)
-caught_on {m = m} {a} c base address floor target s t u n k j host host1 host2 {one} {said}
-    now is ran stops left found offers kept typed before =
+    CaughtAt m.program (stopped_frame c base t) u (caught_at (Ok said) target)) →
+    GoesOnWith (Ok said) low t.stopped.floor → j.before ≡ k.before →
+    RunsTo m a (moment (activation_at c base target low None) u j host2)
+caught_on {m = m} {a} c base address floor target low s t u n k j host host1 host2 {one} {said}
+    now is ran stops left found offers kept typed with before =
     let stops = subst (λ (q : Stop). StopsSo m.program c base t (Ok q)) is stops in
-    let kept = subst (λ (o : Option ℕ). Caught m.engine t u (Ok o)) found kept in
+    let kept = subst (λ (b : Bool). Caught m.engine t u (caught_at (Ok b) target)) found kept in
+    let same = subst (λ (b : Bool). GoesOnWith (Ok b) low t.stopped.floor) found with in
     let typed =
-    subst (λ (o : Option ℕ). CaughtAt m.program (stopped_frame c base t) u (Ok o)) found
+    subst (λ (b : Bool). CaughtAt m.program (stopped_frame c base t) u (caught_at (Ok b) target)) found
     (typed stops.1) in
     let around = around_on now left in
     let fewer = taken m.engine s.count u.count address target (omega (arith, left.later, kept.2))
     (omega (arith, left.later, kept.3)) in
-    record {
+    rw same (record {
       goes = compose (compose now.goes (stopped_so c base t is ran) tt)
-          (offered_so (frame_in (stopped_frame c base t) u) u.fault found offers) tt;
+          (offered_so (frame_in (stopped_frame c base t) u) u.fault target found offers) tt;
       runs = caught_runs m.program m.engine c base address floor t.stopped.address t.stopped.floor target
           t.stopped.slot s t u now.runs
           left.room left.outer stops.0 kept typed;
@@ -285,4 +287,4 @@ caught_on {m = m} {a} c base address floor target s t u n k j host host1 host2 {
       base = now.base;
       room = kept.0.room ∙ around.room;
       before = before ∙ around.before;
-    }
+    })

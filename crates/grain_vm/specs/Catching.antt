@@ -67,6 +67,18 @@ caught_or_left (Ok (Some target)) x f m place w = Go (InFrame (resumed (f place)
 caught_or_left (Ok None) x f m place w = End (Failed (problem_of x)) w
 caught_or_left (Err e) x f m place w = End (Failed NoMemory) w
 
+-- the same outcome with the address, if the frame goes on
+abbrev pub caught_at : Result Bool OutOfMemory → ℕ → Result (Option ℕ) OutOfMemory
+caught_at (Ok true) address = Ok (Some address)
+caught_at (Ok false) address = Ok None
+caught_at (Err e) address = Err e
+
+-- if the frame goes on, its floor is the old one
+abbrev pub GoesOnWith : Result Bool OutOfMemory → (floor old : ℕ) → Type 0
+GoesOnWith (Ok true) floor old = floor ≡ old
+GoesOnWith (Ok false) floor old = Unit {0}
+GoesOnWith (Err e) floor old = Unit {0}
+
 -- After a handler caught: if the frame goes on, there are as many operands and cursors as when the
 -- handler was pushed, the handler is the innermost and has caught a fault, the scope has no fewer
 -- entries than at the push, and an operation was charged. The outer frames are as they were.

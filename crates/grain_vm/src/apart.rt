@@ -1,14 +1,14 @@
-//! Instructions that the loop does not try first and that call no function of their own accord: plain
-//! ones, and apart from them those that walk along a place or may wait for a native.
+//! Instructions that the loop does not do itself: calls of pointers and of names that no function has,
+//! plain instructions, and apart from them those that walk along a place or may wait for a native.
 
 ghost use Rattle.std.specs.Prelude.{◌≡◌};
 ghost use Rattle.grain_frame.specs.Abstraction.{Runs, StandsAt, Stepped, setup_of, moment};
-ghost use Rattle.grain_vm.specs.Attempts.{CallsNoFunction, CallsNothing, StandsApart};
+ghost use Rattle.grain_vm.specs.Attempts.{CallsNothing, StandsApart};
 ghost use Rattle.grain_vm.specs.Methods.{NoneAbove};
 ghost use Rattle.grain_program.specs.declared.code.instruction_set.Op.TheVariants as op;
 
 use crate::asks::{call_native, wait_for_native};
-use crate::attempts::{Apart, Pending, pending_at};
+use crate::attempts::CallApart;
 use crate::finding::{Found, find_pointed};
 use crate::method_runs::{call_apart, call_with, walk_chain};
 use crate::stepping::{Turn, step, step_plain};
@@ -18,17 +18,16 @@ use grain_host::Host;
 use grain_value::OutOfMemory;
 use std::sync::ledger::Ledger;
 
-// Does an instruction apart from the loop. It is built into the loop at one place, since each copy of
-// the frame costs every call.
+// Does a call apart from the loop: of a pointer, or of a name that no function has.
 #[cycle(run)]
 #[inline(always)]
-pub(crate) fn step_apart<H: Host, L: Ledger>(
+pub(crate) fn pointer_or_native<H: Host, L: Ledger>(
     run: &mut Run<H>,
     context: Context<'_>,
     host: &mut H,
     steps: &mut Steps<L>,
     frame: &mut Activation,
-    apart: Apart,
+    apart: CallApart,
 ) -> Result<Progress, OutOfMemory>
     requires runs { Runs context.program.now frame.old run.old }
     requires none { NoneAbove run.old.level run.old.receivers }
@@ -38,10 +37,12 @@ pub(crate) fn step_apart<H: Host, L: Ledger>(
         (moment frame.new run.new steps.new host.new) }
 {
     match apart {
-        Apart::Pointer { count, next } => {
+        CallApart::Pointer { count, next } => {
             call_pointer(run, context, host, steps, frame, count, next)
         }
-        Apart::Other => step_or_walk(run, context, host, steps, frame),
+        CallApart::Native { name, count, next } => {
+            call_native(run, context, host, steps, frame, name, count, next)
+        }
     }
 }
 
@@ -77,12 +78,13 @@ fn call_pointer<H: Host, L: Ledger>(
     }
 }
 
-// Does the instruction at which the frame stands, which is no call of a function by its name, and not
-// `call_fn_ptr`.
+// Does the instruction at which the frame stands, which is neither `call` nor `call_fn_ptr`: a plain one
+// here, and any other in a function of its own, so that what a chain needs, or an instruction that waits
+// for a native, costs a plain instruction nothing.
 #[cycle(run)]
 #[cold]
 #[inline(never)]
-fn step_or_walk<H: Host, L: Ledger>(
+pub(crate) fn step_or_walk<H: Host, L: Ledger>(
     run: &mut Run<H>,
     context: Context<'_>,
     host: &mut H,
@@ -91,7 +93,7 @@ fn step_or_walk<H: Host, L: Ledger>(
 ) -> Result<Progress, OutOfMemory>
     requires runs { Runs context.program.now frame.old run.old }
     requires none { NoneAbove run.old.level run.old.receivers }
-    requires no_function { CallsNoFunction context.program.now frame.old }
+    requires calls_nothing { CallsNothing context.program.now frame.old }
     ensures stepped { Stepped (setup_of H.law context.entry)
         (moment frame.old run.old steps.old host.old) result
         (moment frame.new run.new steps.new host.new) }
@@ -100,36 +102,8 @@ fn step_or_walk<H: Host, L: Ledger>(
         Err(e) => Err(e),
         Ok(done) => match done {
             Some(progress) => Ok(progress),
-            None => call_or_walk(run, context, host, steps, frame),
+            None => walk_or_wait(run, context, host, steps, frame),
         },
-    }
-}
-
-// The same, in a function of its own: what a chain needs, or an instruction that waits for a native, costs
-// a plain instruction nothing.
-#[cycle(run)]
-#[cold]
-#[inline(never)]
-fn call_or_walk<H: Host, L: Ledger>(
-    run: &mut Run<H>,
-    context: Context<'_>,
-    host: &mut H,
-    steps: &mut Steps<L>,
-    frame: &mut Activation,
-) -> Result<Progress, OutOfMemory>
-    requires runs { Runs context.program.now frame.old run.old }
-    requires none { NoneAbove run.old.level run.old.receivers }
-    requires no_function { CallsNoFunction context.program.now frame.old }
-    ensures stepped { Stepped (setup_of H.law context.entry)
-        (moment frame.old run.old steps.old host.old) result
-        (moment frame.new run.new steps.new host.new) }
-{
-    match pending_at(run, context, frame) {
-        Pending::Call { name, count, next } => {
-            call_native(run, context, host, steps, frame, name, count, next)
-        }
-        Pending::Pointer { .. } => unreachable!(),
-        Pending::Other => walk_or_wait(run, context, host, steps, frame),
     }
 }
 

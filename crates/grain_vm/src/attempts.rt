@@ -2,12 +2,13 @@
 
 ghost use Rattle.std.specs.Prelude.{◌≡◌};
 ghost use Rattle.grain_frame.specs.Abstraction.{Runs, setup_of};
-ghost use Rattle.grain_vm.specs.Attempts.{Attempted, IsPending, IsWay, attempt_of, attempt_or};
+ghost use Rattle.grain_vm.specs.Attempts.{Attempted, attempt_branched, attempt_of};
 
 use crate::quick::{
-    quick_assign, quick_const, quick_jump, quick_jump_if, quick_local, quick_next, quick_op,
+    quick_assign, quick_const, quick_jump_if, quick_local, quick_next, quick_op, quick_pop,
     quick_store,
 };
+use crate::stepping::fetch;
 use grain_frame::{Activation, Context, Run};
 use grain_global::Steps;
 use grain_host::Host;
@@ -21,7 +22,7 @@ pub enum Attempt {
     Done,
     /// It is done, and the frame is over, with a value.
     Returned,
-    /// Nothing was done. It is a jump to this address, which costs an operation.
+    /// What is left to do is a jump to this address.
     Jump(u32),
     /// Nothing was done.
     Pending(Pending),
@@ -40,24 +41,26 @@ pub enum Pending {
     Other,
 }
 
-/// How a pending instruction is done.
+/// What came of a branch on a truth value that the loop tried first.
 #[derive(Clone, Copy, Debug, PartialEq, Eq)]
-pub enum Way {
-    /// It calls the function of this number on the last operands; afterwards the frame goes on at
-    /// the address `next`.
-    Function { number: usize, next: usize },
-    /// It is done apart from the loop.
-    Apart(Apart),
+pub enum Branched {
+    /// It is done.
+    Done,
+    /// The truth value is taken, and what is left to do is a jump to the target.
+    Jumps,
+    /// Nothing was done.
+    Undone,
 }
 
-/// An instruction that is done apart from the loop.
+/// A call that is done on a copy of the frame.
 #[derive(Clone, Copy, Debug, PartialEq, Eq)]
-pub enum Apart {
-    /// It calls the pointer under the last `count` operands; afterwards the frame goes on at
+pub enum CallApart {
+    /// A call of the pointer under the last `count` operands; afterwards the frame goes on at
     /// the address `next`.
     Pointer { count: u8, next: usize },
-    /// Any other, which is no call of a function by its name.
-    Other,
+    /// A call of the name that has this index, with this number of arguments, which no function has;
+    /// afterwards the frame goes on at the address `next`.
+    Native { name: u16, count: u8, next: usize },
 }
 
 impl Attempt {
@@ -66,20 +69,29 @@ impl Attempt {
     fn of(done: bool) -> Attempt
         ensures { result ≡ attempt_of done }
     {
-        Attempt::or(done, Attempt::Pending(Pending::Other))
+        if done {
+            Attempt::Done
+        } else {
+            Attempt::Pending(Pending::Other)
+        }
     }
 
-    // `Done` if the instruction was done, else `other`.
+    // What came of a branch to the target.
     #[inline(always)]
-    fn or(done: bool, other: Attempt) -> Attempt
-        ensures { result ≡ attempt_or done other }
+    fn branched(tried: Branched, target: u32) -> Attempt
+        ensures { result ≡ attempt_branched tried target }
     {
-        if done { Attempt::Done } else { other }
+        match tried {
+            Branched::Done => Attempt::Done,
+            Branched::Jumps => Attempt::Jump(target),
+            Branched::Undone => Attempt::Pending(Pending::Other),
+        }
     }
 }
 
 // Does the instruction at which the frame stands, and perhaps those after it, if it is a common one
-// that takes no memory. Else nothing changes, and it says what is pending.
+// that takes no memory. Else it says which jump is left to do, or nothing changes, and it says what is
+// pending.
 #[inline(always)]
 pub(crate) fn quick<H: Host, L: Ledger>(
     run: &mut Run<H>,
@@ -92,8 +104,7 @@ pub(crate) fn quick<H: Host, L: Ledger>(
         steps.new result }
 {
     let address = frame.address;
-    let depth = run.stacks.height();
-    match context.program.fetch(frame.chunk, address, depth) {
+    match fetch(run, context, frame) {
         (Op::LoadConst(constant), width) => {
             Attempt::of(quick_const(run, context, steps, frame, constant, address + width))
         }
@@ -110,20 +121,23 @@ pub(crate) fn quick<H: Host, L: Ledger>(
         (Op::IterNext(target), width) => {
             Attempt::of(quick_next(run, context, steps, frame, target, address + width))
         }
-        (Op::Jump(target), width) => {
-            let done = quick_jump(run, context, steps, frame, target, address + width);
-            Attempt::or(done, Attempt::Jump(target))
-        }
+        (Op::Jump(target), _) => Attempt::Jump(target),
         (Op::JumpIfFalse(target), width) => {
             let next = address + width;
-            Attempt::of(quick_jump_if(run, context, steps, frame, false, target, next))
+            let tried = quick_jump_if(run, context, steps, frame, false, target, next);
+            Attempt::branched(tried, target)
         }
         (Op::JumpIfTrue(target), width) => {
             let next = address + width;
-            Attempt::of(quick_jump_if(run, context, steps, frame, true, target, next))
+            let tried = quick_jump_if(run, context, steps, frame, true, target, next);
+            Attempt::branched(tried, target)
         }
         (Op::CallOp(name, count, token), width) => {
             Attempt::of(quick_op(run, context, steps, frame, name, count, token, width))
+        }
+        (Op::Pop, width) => {
+            let next = address + width;
+            Attempt::of(quick_pop(run, context, steps, frame, next))
         }
         (Op::Call(name, count), width) => {
             Attempt::Pending(Pending::Call {
@@ -143,60 +157,5 @@ pub(crate) fn quick<H: Host, L: Ledger>(
             Attempt::Returned
         }
         (_, _) => Attempt::Pending(Pending::Other),
-    }
-}
-
-// How the pending instruction at which the frame stands is done.
-#[inline(always)]
-pub(crate) fn way_of<H: Host>(
-    run: &Run<H>,
-    context: Context<'_>,
-    frame: &Activation,
-    pending: Pending,
-) -> Way
-    requires pending { IsPending context.program.now frame.now run.now pending }
-    ensures { IsWay context.entry.program.now frame.now run.now result }
-{
-    // Only the contract names them.
-    let _run = run;
-    let _frame = frame;
-    match pending {
-        Pending::Call { name, count, next } => {
-            match context
-                .program
-                .function(u32::from(name), usize::from(count))
-            {
-                Some(number) => Way::Function { number, next },
-                None => Way::Apart(Apart::Other),
-            }
-        }
-        Pending::Pointer { count, next } => Way::Apart(Apart::Pointer { count, next }),
-        Pending::Other => Way::Apart(Apart::Other),
-    }
-}
-
-// What is pending of the instruction at which the frame stands.
-#[inline(always)]
-pub(crate) fn pending_at<H: Host>(run: &Run<H>, context: Context<'_>, frame: &Activation) -> Pending
-    requires runs { Runs context.program.now frame.now run.now }
-    ensures { IsPending context.entry.program.now frame.now run.now result }
-{
-    let address = frame.address;
-    let depth = run.stacks.height();
-    match context.program.fetch(frame.chunk, address, depth) {
-        (Op::Call(name, count), width) => {
-            Pending::Call {
-                name,
-                count,
-                next: address + width,
-            }
-        }
-        (Op::CallFnPtr(count), width) => {
-            Pending::Pointer {
-                count,
-                next: address + width,
-            }
-        }
-        (_, _) => Pending::Other,
     }
 }

@@ -7,6 +7,7 @@ ghost use Rattle.grain_frame.specs.Abstraction.{frame_in, Implements, Runs, Step
 ghost use Rattle.grain_vm.specs.Attempts.{Unchanged, OnTrue, OnFalse};
 ghost use Rattle.grain_vm.specs.Following.{judged, without_two};
 
+use crate::stepping::fetch_at;
 use grain_frame::{Activation, Context, Progress, Run, agrees};
 use grain_global::Steps;
 use grain_host::Host;
@@ -33,8 +34,7 @@ pub(crate) fn quick_branch<H: Host, L: Ledger>(
         (Unchanged frame.old run.old steps.old frame.new run.new steps.new) }
 {
     let address = frame.address;
-    let depth = run.stacks.height() - 1;
-    match context.program.fetch(frame.chunk, address, depth) {
+    match fetch_at(context, frame.chunk, address) {
         (Op::JumpIfFalse(target), width) => {
             let next = address + width;
             branch_to(run, context, steps, frame, truth, false, target, next)

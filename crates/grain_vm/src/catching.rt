@@ -9,7 +9,7 @@ ghost use Rattle.grain_means.specs.Rules.{throws_unit, thrown_anew, offered, off
 ghost use Rattle.grain_means.specs.Simulation.{Simulates, SimulatesExactly};
 ghost use Rattle.grain_frame.specs.Abstraction.{abstraction, frame_in, handler_in, handlers_in, is_out, charge_continuation, CanCatch, setup_of};
 ghost use Rattle.grain_frame.specs.declared.activations.Activation.{Activation};
-ghost use Rattle.grain_vm.specs.Catching.{IsArmed, found, with_found, StandsFor, catch_continuation, caught_or_left, Caught, CaughtAt, CaughtBy};
+ghost use Rattle.grain_vm.specs.Catching.{IsArmed, found, with_found, StandsFor, catch_continuation, caught_at, caught_or_left, Caught, CaughtAt, CaughtBy, GoesOnWith};
 
 use crate::calls::leave_by_fault;
 use grain_fault::{EvalAltResult, MalformedKind, Position, caught_value};
@@ -30,12 +30,55 @@ fn throws_unit(fault: &EvalAltResult) -> bool
     }
 }
 
+// Offers the fault by which a frame stopped to the frame's handlers. It says whether one caught it: then
+// the frame goes on at `address`, which is set to the handler's target, with `floor`, which is set to the
+// floor that it had where it stopped. Else the fault has left the frame.
+#[inline(always)]
+pub(crate) fn offer<H: Host, L: Ledger>(
+    run: &mut Run<H>,
+    context: Context<'_>,
+    host: &mut H,
+    steps: &mut Steps<L>,
+    address: &mut usize,
+    floor: &mut usize,
+) -> Result<bool, OutOfMemory>
+    requires entered { 0 < length run.old.stacks.outer }
+    requires unnoted { run.old.stacks.noted ≡ false }
+    requires catches { (f : Activation) × CanCatch context.program.now f run.old }
+    ensures goes { (f : Activation) → f.address ≡ run.old.stopped.address →
+        f.floor ≡ run.old.stopped.floor → f.slot ≡ run.old.stopped.slot →
+        Simulates (setup_of H.law context.entry)
+        (abstraction run.old steps.old host.old)
+        (λ m place w. offered m (frame_in f run.old place) (problem_of run.old.fault) w)
+        (is_out result) (abstraction run.new steps.new host.new)
+        (caught_or_left (caught_at result address.new) run.new.fault (frame_in f run.new)) }
+    ensures kept { Caught context.entry.engine.now run.old run.new
+        (caught_at result address.new) }
+    ensures typed { (f : Activation) → CanCatch context.entry.program.now f run.old →
+        CaughtAt context.entry.program.now f run.new (caught_at result address.new) }
+    ensures floor { GoesOnWith result floor.new run.old.stopped.floor }
+    ensures before { steps.new.before ≡ steps.old.before }
+{
+    let at = run.stopped;
+    match catch(run, context, host, steps, at.address, at.floor, at.slot) {
+        Err(e) => Err(e),
+        Ok(caught) => match caught {
+            Some(target) => {
+                *address = target as usize;
+                *floor = at.floor;
+                Ok(true)
+            }
+            None => Ok(false),
+        },
+    }
+}
+
 // Offers a fault of a frame, which the run holds, to the frame's handlers. It says at which address the
 // frame goes on, or None if the fault has left the frame. Of the frame it is given only the address,
 // the floor and the slot of the step that is blamed, so that the loop can hold the frame in registers.
 #[cold]
 #[inline(never)]
-pub(crate) fn catch<H: Host, L: Ledger>(
+fn catch<H: Host, L: Ledger>(
     run: &mut Run<H>,
     context: Context<'_>,
     host: &mut H,

@@ -13,6 +13,7 @@ ghost use Rattle.grain_vm.specs.Attempts.{Unchanged, OnTrue, OnFalse};
 ghost use Rattle.grain_vm.specs.Following.{PerformsOn, loaded, judged, without_two, begun_behind};
 ghost use Rattle.grain_program.specs.declared.code.instruction_set.Op.TheVariants as op;
 
+use crate::stepping::fetch_at;
 use crate::two_loads::const_loaded;
 use grain_frame::{Activation, Context, Progress, Run, agrees, quick_assigned_with};
 use grain_global::Steps;
@@ -41,8 +42,7 @@ pub(crate) fn quick_loaded<H: Host, L: Ledger>(
     ensures undone { OnFalse result
         (Unchanged frame.old run.old steps.old frame.new run.new steps.new) }
 {
-    let depth = run.stacks.frame_operands().len() + 1;
-    match context.program.fetch(frame.chunk, next, depth) {
+    match fetch_at(context, frame.chunk, next) {
         (Op::AssignLocalOp(slot, name, op), width) => {
             let after = next + width;
             assign_loaded(
@@ -78,8 +78,7 @@ pub(crate) fn quick_local_loaded<H: Host, L: Ledger>(
     ensures undone { OnFalse result
         (Unchanged frame.old run.old steps.old frame.new run.new steps.new) }
 {
-    let depth = run.stacks.frame_operands().len() + 1;
-    match context.program.fetch(frame.chunk, next, depth) {
+    match fetch_at(context, frame.chunk, next) {
         (Op::AssignLocalOp(slot, name, op), width) => {
             let after = next + width;
             assign_loaded(
@@ -225,8 +224,7 @@ fn branch_loaded<H: Host, L: Ledger>(
         (Unchanged frame.old run.old steps.old frame.new run.new steps.new) }
 {
     let address = frame.address;
-    let depth = run.stacks.height();
-    match context.program.fetch(frame.chunk, address, depth) {
+    match fetch_at(context, frame.chunk, address) {
         (Op::JumpIfFalse(target), width) => {
             let next = address + width;
             branch_loaded_to(

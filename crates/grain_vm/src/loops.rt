@@ -8,15 +8,14 @@ ghost use Rattle.grain_means.specs.Simulation.{Simulates};
 ghost use Rattle.grain_vm.specs.Catching.{activation_at, stop_continuation, StopsSo};
 ghost use Rattle.grain_frame.specs.Abstraction.{abstraction, frame_in, is_out, continuation, KeepsFrame, ContinuesAt, Runs, Stepped, setup_of, moment};
 ghost use Rattle.grain_vm.specs.Calls.{LeavesAround, frame_over, entry_of};
-ghost use Rattle.grain_vm.specs.Attempts.{IsPending};
+ghost use Rattle.grain_vm.specs.Attempts.{CallsNothing, IsPending, StandsApart};
 ghost use Rattle.grain_vm.specs.Methods.{NoneAbove};
 ghost use Rattle.grain_program.specs.Indices.{IsNamed};
 
-use crate::apart::step_apart;
-use crate::attempts::{Attempt, Pending, Way, quick, way_of};
+use crate::apart::{pointer_or_native, step_or_walk};
+use crate::attempts::{Attempt, CallApart, Pending, quick};
 use crate::calls::{FrameEnd, enter_function, leave_by_fault, resume_caller};
-use crate::catching::catch;
-use crate::stepping::jump;
+use crate::catching::offer;
 use grain_frame::{Activation, Context, Progress, Run};
 use grain_global::Steps;
 use grain_host::Host;
@@ -79,9 +78,7 @@ pub(crate) fn call<H: Host, L: Ledger>(
     }
 }
 
-// Does the instruction at which the frame stands and that `quick` did not do. All but a call of a function
-// by its name is done on a copy of the frame, so that the loop can keep its own in registers, and only
-// the fields that may change are copied back.
+// Does the instruction at which the frame stands and that `quick` did not do.
 #[cycle(run)]
 #[inline(always)]
 fn proceed<H: Host, L: Ledger>(
@@ -99,20 +96,76 @@ fn proceed<H: Host, L: Ledger>(
         (moment frame.old run.old steps.old host.old) result
         (moment frame.new run.new steps.new host.new) }
 {
-    match way_of(run, context, frame, pending) {
-        Way::Function { number, next } => {
-            let function = context.program.function_at(number);
-            call(run, context, host, steps, frame, function, next)
+    let apart = match pending {
+        Pending::Call { name, count, next } => {
+            match context
+                .program
+                .function(u32::from(name), usize::from(count))
+            {
+                Some(number) => {
+                    let function = context.program.function_at(number);
+                    return call(run, context, host, steps, frame, function, next);
+                }
+                None => CallApart::Native { name, count, next },
+            }
         }
-        Way::Apart(apart) => {
-            let mut copy = *frame;
-            let progress = step_apart(run, context, host, steps, &mut copy, apart);
-            frame.address = copy.address;
-            frame.floor = copy.floor;
-            frame.slot = copy.slot;
-            progress
-        }
-    }
+        Pending::Pointer { count, next } => CallApart::Pointer { count, next },
+        Pending::Other => return step_on_copy(run, context, host, steps, frame),
+    };
+    call_on_copy(run, context, host, steps, frame, apart)
+}
+
+// Does a call apart from the loop, on a copy of the frame, so that the loop can keep its own in registers.
+// Only the fields that may change are copied back.
+#[cycle(run)]
+#[inline(always)]
+fn call_on_copy<H: Host, L: Ledger>(
+    run: &mut Run<H>,
+    context: Context<'_>,
+    host: &mut H,
+    steps: &mut Steps<L>,
+    frame: &mut Activation,
+    apart: CallApart,
+) -> Result<Progress, OutOfMemory>
+    requires runs { Runs context.program.now frame.old run.old }
+    requires none { NoneAbove run.old.level run.old.receivers }
+    requires stands { StandsApart context.program.now frame.old run.old apart }
+    ensures stepped { Stepped (setup_of H.law context.entry)
+        (moment frame.old run.old steps.old host.old) result
+        (moment frame.new run.new steps.new host.new) }
+{
+    let mut copy = *frame;
+    let progress = pointer_or_native(run, context, host, steps, &mut copy, apart);
+    frame.address = copy.address;
+    frame.floor = copy.floor;
+    frame.slot = copy.slot;
+    progress
+}
+
+// Does the instruction at which the frame stands, which is neither `call` nor `call_fn_ptr`, on a copy of
+// the frame, as `call_on_copy` does a call.
+#[cycle(run)]
+#[inline(always)]
+fn step_on_copy<H: Host, L: Ledger>(
+    run: &mut Run<H>,
+    context: Context<'_>,
+    host: &mut H,
+    steps: &mut Steps<L>,
+    frame: &mut Activation,
+) -> Result<Progress, OutOfMemory>
+    requires runs { Runs context.program.now frame.old run.old }
+    requires none { NoneAbove run.old.level run.old.receivers }
+    requires calls_nothing { CallsNothing context.program.now frame.old }
+    ensures stepped { Stepped (setup_of H.law context.entry)
+        (moment frame.old run.old steps.old host.old) result
+        (moment frame.new run.new steps.new host.new) }
+{
+    let mut copy = *frame;
+    let progress = step_or_walk(run, context, host, steps, &mut copy);
+    frame.address = copy.address;
+    frame.floor = copy.floor;
+    frame.slot = copy.slot;
+    progress
 }
 
 // Runs a frame to its end: its instructions, and after a fault that one of its handlers catches,
@@ -144,16 +197,13 @@ pub(crate) fn run_frame<H: Host, L: Ledger>(
             Ok(stop) => match stop {
                 Stop::Value => return Ok(FrameEnd::Value),
                 Stop::Fault => {
-                    let at = run.stopped;
-                    match catch(run, context, host, steps, at.address, at.floor, at.slot) {
+                    match offer(run, context, host, steps, &mut address, &mut floor) {
                         Err(e) => return Err(e),
-                        Ok(caught) => match caught {
-                            Some(target) => {
-                                address = target as usize;
-                                floor = at.floor;
+                        Ok(caught) => {
+                            if !caught {
+                                return Ok(FrameEnd::Fault);
                             }
-                            None => return Ok(FrameEnd::Fault),
-                        },
+                        }
                     }
                 }
             },
@@ -201,7 +251,7 @@ fn run_from<H: Host, L: Ledger>(
             Attempt::Done => continue 'turn,
             Attempt::Returned => return Ok(Stop::Value),
             Attempt::Jump(target) => {
-                match jump(run, context, host, steps, &mut frame, target) {
+                match run.jump_to(context, host, steps, &mut frame, target as usize) {
                     Err(e) => {
                         leave_by_fault(run, frame.address, frame.floor, frame.slot);
                         return Err(e);

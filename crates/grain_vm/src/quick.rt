@@ -1,20 +1,22 @@
 //! Common instructions, tried before all others: these forms take no memory, raise nothing and call
 //! nothing, so that the loop over them holds what it needs in registers. Each says whether it did its
-//! instruction; where it did not, it changed nothing, and the instruction's own method does it.
+//! instruction; where it did not, it changed nothing, and the instruction's own method does it. A branch
+//! to its target takes the truth value and leaves the jump to the loop.
 
-ghost use Rattle.std.specs.Prelude.{◌≡◌, ◌<◌, ◌≤◌, ◌+◌, ◌-◌, ◌∷◌, [], length, Ok, Some, cond, nat_lt};
+ghost use Rattle.std.specs.Prelude.{◌≡◌, ◌<◌, ◌≤◌, ◌+◌, ◌-◌, length, Ok, Some};
 ghost use Rattle.grain_program.specs.Indices.{InPools};
 ghost use Rattle.grain_program.specs.Layout.{most_code};
 ghost use Rattle.grain_program.specs.TypedAt.{IsTypedAt};
 ghost use Rattle.grain_value.specs.Operands.{arguments};
 ghost use Rattle.grain_ops.specs.Agreement.{Agrees, IsGiven};
-ghost use Rattle.grain_means.specs.Rules.{jump_if, operated, flat_all};
-ghost use Rattle.grain_frame.specs.Abstraction.{frame_in, tries_in, Implements, Performs, Ready, Runs, setup_of, moment};
+ghost use Rattle.grain_means.specs.Rules.{operated, flat_all};
+ghost use Rattle.grain_frame.specs.Abstraction.{tries_in, Performs, Ready, Runs, setup_of, moment};
 ghost use Rattle.grain_frame.specs.Looping.{PerformsLoop};
-ghost use Rattle.grain_vm.specs.Attempts.{Unchanged, OnTrue, OnFalse};
+ghost use Rattle.grain_vm.specs.Attempts.{BranchTried, Unchanged, OnTrue, OnFalse};
 ghost use Rattle.grain_vm.specs.Following.{PerformsOn};
 ghost use Rattle.grain_program.specs.declared.code.instruction_set.Op.TheVariants as op;
 
+use crate::attempts::Branched;
 use crate::branches::quick_branch;
 use crate::loaded::{quick_loaded, quick_local_loaded};
 use grain_frame::{Activation, Context, Progress, Run, agrees, quick_assigned};
@@ -295,36 +297,35 @@ fn quick_operation<H: Host>(run: &Run<H>, context: Context<'_>, token: u16, coun
     quick_operated(token, &run.stacks.peek(1).value, &run.stacks.top().value)
 }
 
-// `jump` to a higher address, which costs no operation.
+// `pop` of an operand that owns no memory.
 #[inline(always)]
-pub(crate) fn quick_jump<H: Host, L: Ledger>(
+pub(crate) fn quick_pop<H: Host, L: Ledger>(
     run: &mut Run<H>,
     context: Context<'_>,
     steps: &mut Steps<L>,
     frame: &mut Activation,
-    target: u32,
     next: usize,
 ) -> bool
-    requires ready { Ready frame.old run.old (op.Jump target) next }
+    requires ready { Ready frame.old run.old op.Pop next }
     ensures performs { OnTrue result ((host : H) →
         Performs (setup_of H.law context.entry) (moment frame.old run.old steps.old host)
-        (op.Jump target) next (Ok Progress.Continues) (moment frame.new run.new steps.new host)) }
+        op.Pop next (Ok Progress.Continues) (moment frame.new run.new steps.new host)) }
     ensures undone { OnFalse result
         (Unchanged frame.old run.old steps.old frame.new run.new steps.new) }
 {
     // Only the contract names it.
-    let _next = next;
-    let target = target as usize;
-    if target > frame.address {
-        frame.address = target;
-        steps.mark();
-        true
-    } else {
-        false
+    let _context = context;
+    if !run.stacks.top().value.owns_no_memory() {
+        return false;
     }
+    run.stacks.drop_top();
+    frame.address = next;
+    steps.mark();
+    true
 }
 
-// `jump_if_false` and `jump_if_true` on a truth value, if that costs no operation.
+// `jump_if_false` and `jump_if_true` on a truth value. It is taken; if it is the wanted one, the jump is
+// left to do.
 #[inline(always)]
 pub(crate) fn quick_jump_if<H: Host, L: Ledger>(
     run: &mut Run<H>,
@@ -334,33 +335,24 @@ pub(crate) fn quick_jump_if<H: Host, L: Ledger>(
     wanted: bool,
     target: u32,
     next: usize,
-) -> bool
+) -> Branched
     requires ready { Ready frame.old run.old (op.JumpIfFalse target) next }
-    ensures implements { OnTrue result ((host : H) →
-        Implements (setup_of H.law context.entry) (moment frame.old run.old steps.old host)
-        (λ m place w. jump_if m wanted target next (frame_in frame.old run.old place) w)
-        (cond (nat_lt target next) (target ∷ next ∷ []) (next ∷ target ∷ [])) 1 0
-        run.old.stacks.handlers (Ok Progress.Continues) (moment frame.new run.new steps.new host)) }
-    ensures undone { OnFalse result
-        (Unchanged frame.old run.old steps.old frame.new run.new steps.new) }
+    ensures tried { BranchTried (setup_of H.law context.entry) frame.old run.old steps.old wanted
+        target next frame.new run.new steps.new result }
 {
-    let target = target as usize;
+    // Only the contract names them.
+    let _context = context;
+    let _target = target;
     match run.stacks.top().value {
         Dynamic::Bool(truth) => {
-            if !agrees(wanted, truth) {
-                run.stacks.drop_top();
-                frame.address = next;
-                steps.mark();
-                true
-            } else if target > frame.address {
-                run.stacks.drop_top();
-                frame.address = target;
-                steps.mark();
-                true
-            } else {
-                false
+            run.stacks.drop_top();
+            if agrees(wanted, truth) {
+                return Branched::Jumps;
             }
+            frame.address = next;
+            steps.mark();
+            Branched::Done
         }
-        _ => false,
+        _ => Branched::Undone,
     }
 }

@@ -1,15 +1,20 @@
 //! One instruction of a frame that is neither `call` nor `call_fn_ptr`.
 
-ghost use Rattle.std.specs.Prelude.{◌≡◌};
+ghost use Rattle.std.specs.Prelude.{◌≡◌, ◌≤◌, ◌+◌, ℕ, List, length, Some};
+ghost use Rattle.grain_program.specs.Decoding.{op_at};
+ghost use Rattle.grain_program.specs.Indices.{InPools};
+ghost use Rattle.grain_program.specs.Layout.{most_code};
+ghost use Rattle.grain_program.specs.Shapes.{TryHandler};
+ghost use Rattle.grain_program.specs.TypedAt.{IsTypedAt, Provides, Verified};
 ghost use Rattle.grain_frame.specs.Abstraction.{Runs, Stepped, setup_of, moment};
-ghost use Rattle.grain_vm.specs.Attempts.{CallsNothing, StandsAtJump};
+ghost use Rattle.grain_vm.specs.Attempts.{CallsNothing};
 ghost use Rattle.grain_vm.specs.Finding.{StepsHere, StepsIfPlain, is_plain, turn_of};
 
 use crate::receivers::Destination;
 use grain_frame::{Activation, Context, Performed, Progress, Run, Waiting};
 use grain_global::Steps;
 use grain_host::Host;
-use grain_program::Op;
+use grain_program::{Chunk, Op};
 use grain_value::OutOfMemory;
 use std::sync::ledger::Ledger;
 
@@ -46,23 +51,39 @@ impl Turn {
     }
 }
 
-// Does the jump at which the frame stands.
+// The instruction at which the frame stands, and its width in bytes.
 #[inline(always)]
-pub(crate) fn jump<H: Host, L: Ledger>(
-    run: &mut Run<H>,
-    context: Context<'_>,
-    host: &mut H,
-    steps: &mut Steps<L>,
-    frame: &mut Activation,
-    target: u32,
-) -> Result<Progress, OutOfMemory>
-    requires runs { Runs context.program.now frame.old run.old }
-    requires here { StandsAtJump context.program.now frame.old run.old target }
-    ensures stepped { Stepped (setup_of H.law context.entry)
-        (moment frame.old run.old steps.old host.old) result
-        (moment frame.new run.new steps.new host.new) }
+pub(crate) fn fetch<H: Host>(run: &Run<H>, context: Context<'_>, frame: &Activation) -> (Op, usize)
+    requires runs { Runs context.program.now frame.now run.now }
+    ensures read { op_at context.entry.program.now.code frame.now.address
+        ≡ Some (result.0, result.1) }
+    ensures provides { Provides context.entry.program.now frame.now.chunk frame.now.address
+        (length run.now.stacks.operands) result.0 result.1 }
+    ensures verified { (depth cursors : ℕ) (handlers : List TryHandler) →
+        IsTypedAt context.entry.program.now frame.now.chunk frame.now.address depth cursors
+        handlers →
+        Verified context.entry.program.now frame.now.chunk frame.now.address depth cursors handlers
+        result.0 result.1 }
 {
-    run.jump_to(context, host, steps, frame, target as usize)
+    // Only the contract names it.
+    let _run = run;
+    context.program.fetch(frame.chunk, frame.address)
+}
+
+// The instruction at an address at which a frame of the chunk would stand, and its width in bytes.
+#[inline(always)]
+pub(crate) fn fetch_at(context: Context<'_>, chunk: Chunk, address: usize) -> (Op, usize)
+    requires { (depth : ℕ) × ((cursors : ℕ) × ((handlers : List TryHandler) ×
+        IsTypedAt context.program.now chunk address depth cursors handlers)) }
+    ensures read { op_at context.entry.program.now.code address ≡ Some (result.0, result.1) }
+    ensures wide { 1 ≤ result.1 }
+    ensures fits { address + result.1 ≤ most_code }
+    ensures pools { InPools context.entry.program.now result.0 }
+    ensures verified { (depth cursors : ℕ) (handlers : List TryHandler) →
+        IsTypedAt context.entry.program.now chunk address depth cursors handlers →
+        Verified context.entry.program.now chunk address depth cursors handlers result.0 result.1 }
+{
+    context.program.fetch(chunk, address)
 }
 
 // Whether an instruction is plain: it calls nothing, walks along no place, and asks the host for no
@@ -102,8 +123,7 @@ pub(crate) fn step_plain<H: Host, L: Ledger>(
         (moment frame.new run.new steps.new host.new) }
 {
     let address = frame.address;
-    let depth = run.stacks.height();
-    let (op, width) = context.program.fetch(frame.chunk, address, depth);
+    let (op, width) = fetch(run, context, frame);
     if !is_plain(op) {
         return Ok(None);
     }
@@ -130,8 +150,7 @@ pub(crate) fn step<H: Host, L: Ledger>(
         (moment frame.new run.new steps.new host.new) }
 {
     let address = frame.address;
-    let depth = run.stacks.height();
-    match context.program.fetch(frame.chunk, address, depth) {
+    match fetch(run, context, frame) {
         (Op::Chain(index), width) => Ok(Turn::Chain {
             index,
             next: address + width,

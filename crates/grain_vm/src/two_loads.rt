@@ -14,6 +14,7 @@ ghost use Rattle.grain_vm.specs.Following.{PerformsOn, loaded, judged, begun_beh
 ghost use Rattle.grain_program.specs.declared.code.instruction_set.Op.TheVariants as op;
 
 use crate::loaded::begin_behind;
+use crate::stepping::fetch_at;
 use grain_frame::{Activation, Context, Progress, Run, agrees};
 use grain_global::Steps;
 use grain_host::Host;
@@ -77,8 +78,7 @@ fn pair_loaded<H: Host, L: Ledger>(
     ensures undone { OnFalse result
         (Unchanged frame.old run.old steps.old frame.new run.new steps.new) }
 {
-    let depth = run.stacks.frame_operands().len() + 2;
-    match context.program.fetch(frame.chunk, at, depth) {
+    match fetch_at(context, frame.chunk, at) {
         (Op::CallOp(name, count, token), width) => {
             pair_operated(
                 run, context, steps, frame, first, second, at, name, count, token, width,
@@ -164,8 +164,7 @@ fn pair_branch<H: Host, L: Ledger>(
     ensures undone { OnFalse result
         (Unchanged frame.old run.old steps.old frame.new run.new steps.new) }
 {
-    let depth = run.stacks.frame_operands().len() + 1;
-    match context.program.fetch(frame.chunk, at, depth) {
+    match fetch_at(context, frame.chunk, at) {
         (Op::JumpIfFalse(target), width) => {
             let next = at + width;
             pair_branch_to(

@@ -36,7 +36,7 @@ use Rattle.grain_frame.specs.declared.runs.Progress.{Progress}
 use Rattle.grain_frame.specs.declared.runs.Progress.TheVariants as progress
 use Rattle.grain_frame.specs.declared.runs.Run.{Run}
 use Rattle.grain_frame.specs.lemmas.Standing.{goes_with_cursors}
-pub use Rattle.grain_frame.specs.lemmas.Standing.{typed_with, verified}
+pub use Rattle.grain_frame.specs.lemmas.Standing.{is_typed, verified}
 
 -- the instruction that stands there
 pub performs : {H : Type 0} {m : Setup H} {now : LocalState H} (f : Option Place → Frame) (o : Op)
@@ -147,9 +147,9 @@ module _ {H : Type 0} (law : Law H) (p : View) (engine : Engine) (f : Activation
 
 -- an instruction that was read in the code
 module _ {H : Type 0} (law : Law H) (p : View) (engine : Engine) (f : Activation) (s : Run H)
-    (said o : Op) (width depth : ℕ) (is : said ≡ o) (deep : depth ≡ length s.stacks.operands)
-    (runs : Runs p f s)
-    (seen : (cursors : ℕ) (hs : List TryHandler) → IsTypedAt p f.chunk f.address depth cursors hs →
+    (said o : Op) (width : ℕ) (is : said ≡ o) (runs : Runs p f s)
+    (seen : (depth cursors : ℕ) (hs : List TryHandler) →
+    IsTypedAt p f.chunk f.address depth cursors hs →
     Verified p f.chunk f.address depth cursors hs said width) where
   -- what was verified of it
   pub here : Verified p f.chunk f.address (length s.stacks.operands) (length s.stacks.cursors)
@@ -157,11 +157,9 @@ module _ {H : Type 0} (law : Law H) (p : View) (engine : Engine) (f : Activation
   here =
       let hs = tries_in s.stacks.handlers in
       let many = length s.stacks.cursors in
-      let typed : IsTypedAt p f.chunk f.address depth many hs =
-      subst (λ (k : ℕ). IsTypedAt p f.chunk f.address k many hs) (sym deep) runs.typed in
-      subst (λ (q : Op). Verified p f.chunk f.address (length s.stacks.operands) many hs q width) is
-      (subst (λ (k : ℕ). Verified p f.chunk f.address k many hs said width) deep
-      (seen many hs typed))
+      let depth = length s.stacks.operands in
+      subst (λ (q : Op). Verified p f.chunk f.address depth many hs q width) is
+      (seen depth many hs runs.typed)
 
   there : op_at p.code f.address ≡ Some (said, width) → op_at p.code f.address ≡ Some (o, width)
   there read = read ∙ ap (λ (q : Op). Some (q, width)) is

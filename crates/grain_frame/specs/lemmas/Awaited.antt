@@ -2,7 +2,6 @@
 use Rattle.std.proofs.Common.{◌≡◌, ℕ, List, Option, refl}
 use Rattle.grain_program.specs.View.{View}
 use Rattle.grain_means.specs.Worlds.{Act, Answer, Frame, Home, Place, Setup, World}
-use Rattle.grain_frame.specs.Targets.{HoldsWritable}
 use Rattle.grain_frame.specs.Waiting.{CanHold, GoesOn, IsKept, IsKeptAt, LeadsTo, asking}
 use Rattle.grain_frame.specs.declared.activations.Activation.{Activation}
 use Rattle.grain_frame.specs.declared.assignments.Assignment.{Assignment}

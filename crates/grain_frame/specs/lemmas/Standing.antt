@@ -1,5 +1,5 @@
 -- What was verified of the instruction at which a frame stands.
-use Rattle.std.proofs.Common.{◌≡◌, ◌+◌, ◌-◌, ℕ, List, length, sym, subst, ap, arith}
+use Rattle.std.proofs.Common.{◌≡◌, ◌+◌, ◌-◌, ℕ, List, length, subst, ap, arith}
 use Rattle.grain_program.specs.declared.code.instruction_set.Op.{Op}
 use Rattle.grain_program.specs.declared.code.parts.Chunk.{Chunk}
 use Rattle.grain_program.specs.declared.code.effects.Looping.TheVariants as looping
@@ -34,13 +34,11 @@ verified {p = p} {f} {s} is at =
     subst (λ (q : Op). Verified p f.chunk f.address (length s.stacks.operands)
     (length s.stacks.cursors) (tries_in s.stacks.handlers) q at.width) is at.seen
 
--- a frame that runs is typed with its handlers
-pub typed_with : {H : Type 0} (p : View) (f : Activation) (s : Run H) (depth : ℕ) →
-    depth ≡ length s.stacks.operands → Runs p f s →
-    (hs : List TryHandler)
-    × IsTypedAt p f.chunk f.address depth (length s.stacks.cursors) hs
-typed_with p f s depth deep runs = (
-  tries_in s.stacks.handlers,
-  subst (λ (k : ℕ). IsTypedAt p f.chunk f.address k (length s.stacks.cursors)
-      (tries_in s.stacks.handlers)) (sym deep) runs.typed,
+-- a frame that runs is typed with its operands, its cursors and its handlers
+pub is_typed : {H : Type 0} (p : View) (f : Activation) (s : Run H) → Runs p f s →
+    (depth : ℕ) × ((cursors : ℕ) × ((hs : List TryHandler)
+    × IsTypedAt p f.chunk f.address depth cursors hs))
+is_typed p f s runs = (
+  length s.stacks.operands,
+  (length s.stacks.cursors, (tries_in s.stacks.handlers, runs.typed)),
 )

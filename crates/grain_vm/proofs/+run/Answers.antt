@@ -1,4 +1,4 @@
-use Rattle.std.proofs.Common.{◌≡◌, ◌∙◌, ◌<◌, ◌-◌, arith, rules, ℕ, Option, Ok, length, refl, subst, None, ap, ◌+◌, ◌++◌, ◌∷◌, [], Some, map, sym, true, Err, inr}
+use Rattle.std.proofs.Common.{◌≡◌, ◌∙◌, ◌<◌, ◌-◌, arith, rules, ℕ, List, Option, Bool, Ok, length, refl, subst, None, ap, ◌+◌, ◌++◌, ◌∷◌, [], Some, map, sym, true, false, Err, inr}
 use Rattle.grain_means.specs.Means.{setup}
 use Rattle.grain_frame.specs.Abstraction.{frame_in, this_of, is_out, moment, abstraction, Implements, ImplementsBound}
 use Rattle.grain_vm.specs.Driving.{IsApart}
@@ -6,7 +6,8 @@ use Rattle.grain_vm.specs.Methods.{NoneAbove, given_to}
 use Rattle.grain_frame.specs.declared.waiting.Performed.TheVariants as performed
 use Rattle.grain_frame.specs.lemmas.Bound.{arm_bound, as_bound}
 use Rattle.grain_vm.proofs.Found.{found_stepped, function_found_so, is_done, is_function, pointer_found, stepped_on_copy, finds_of, call_refused, none_numbered, pointed_done, pointed_found}
-use Rattle.grain_vm.specs.Attempts.{IsPending}
+use Rattle.grain_vm.specs.Attempts.{IsPending, StandsApart}
+use Rattle.grain_vm.specs.declared.attempts.CallApart.{CallApart}
 use Rattle.grain_vm.specs.declared.attempts.Pending.{Pending}
 use Rattle.grain_vm.proofs.Plain.{stepped_from}
 use Rattle.grain_vm.proofs.Calling.{call_ran, has_begun, not_begun, entered_with, kept_with, refused_here, refused_this, there_is, outer_is}
@@ -19,7 +20,7 @@ use Rattle.grain_vm.proofs.WaitsOn.{led_to, less_awaits, next_awaits, out_back, 
 use Rattle.grain_vm.proofs.Running.{around_caught, around_on, caught_on, done_after, done_from, done_so, led, left_around, left_around_by_fault, left_around_by_memory, runs_here, runs_on, stops_by_fault, stops_by_memory, stops_so, turn_falls}
 use Rattle.grain_vm.proofs.BoundFrames.{all_still, unbound_above}
 use Rattle.grain_vm.proofs.MethodOvers.{called_one, method_ran, method_refused}
-use Rattle.grain_vm.specs.Catching.{stopped_frame, StopsSo, Caught}
+use Rattle.grain_vm.specs.Catching.{stopped_frame, StopsSo, Caught, caught_at}
 use Rattle.grain_vm.specs.declared.loops.Stop.{Stop}
 use Rattle.grain_vm.proofs.CaughtFrames.{offered_so, stopped_so}
 use Rattle.grain_means.specs.lemmas.Stretches.{compose, same}
@@ -50,7 +51,7 @@ use Rattle.grain_value.specs.Operands.{arguments, read_write, under}
 use Rattle.grain_value.specs.Writing.{type_name_of}
 use Rattle.grain_fault.specs.Problems.{Plain, DataRace, MismatchDataType}
 use Rattle.grain_program.specs.Lookups.{CalledByText, function_by_text, function_of}
-use Rattle.grain_stack.specs.Views.{StacksView}
+use Rattle.grain_stack.specs.Views.{StackFrame, StacksView}
 use Rattle.grain_means.specs.Simulation.{stopped, world}
 use Rattle.grain_frame.specs.declared.runs.Run.{Run}
 use Rattle.grain_frame.specs.lemmas.Failing.{raises_here}
@@ -106,32 +107,52 @@ loops::call-returns-then-begun-clause-goes g t c =
     c.args.next entered left.outer left.saved left.level refl)
     (c.resume_caller.ensures.same ran.new.host) c.resume_caller.ensures.persists
 
-pub loops::proceed-returns-in-Function : goal.loops::proceed-returns-in-Function
-loops::proceed-returns-in-Function g t c =
+pub loops::proceed-returns-in-Some : goal.loops::proceed-returns-in-Some
+loops::proceed-returns-in-Some g t c =
     let p = c.args.context.program.now in
     let engine = c.args.context.engine.now in
     let f = c.args.frame.now in
     let s = c.args.run.now in
     let n = c.args.steps.now in
     let host = c.args.host.now in
+    let at = subst (λ (q : Pending). IsPending p f s q) c.in-Call.is c.requires.pending in
+    let name : c.from.result ≡ c.in-Call.name = search rules in
+    let count : c.from-in-Call.result ≡ c.in-Call.count = search rules in
     record {
       stepped = found_stepped g.H.Host.law p engine f f c.call.new.frame s s c.call.new.run n n
-          c.call.new.steps c.in-Function.number c.in-Function.next host host c.call.new.host
+          c.call.new.steps c.in-Some.number c.in-Call.next host host c.call.new.host
           c.function_at-function.result.now c.requires.runs
-          (function_found_so g.H.Host.law p engine f s n c.in-Function.number c.in-Function.next
-          host c.way_of.result c.in-Function.is c.way_of.ensures)
+          (function_found_so g.H.Host.law p engine f s n c.in-Call.name c.in-Call.count
+          c.in-Some.number c.in-Call.next host at
+          (rw (name, count) at (sym c.in-Some.is ∙ c.function.ensures.exact))
+          (rw (name, count) at c.in-Some.ensures.called))
           c.function_at-function.ensures.value c.call.ensures.goes c.call.ensures.kept
           c.call.ensures.lands c.call.ensures.before;
     }
 
-pub loops::proceed-returns-in-Apart : goal.loops::proceed-returns-in-Apart
-loops::proceed-returns-in-Apart g t c =
-    let did = c.step_apart-progress in
+pub loops::call_on_copy-returns : goal.loops::call_on_copy-returns
+loops::call_on_copy-returns g t c =
+    let did = c.pointer_or_native-progress in
     record {
       stepped = stepped_on_copy g.H.Host.law c.args.context.program.now c.args.context.engine.now
           c.args.frame.now did.new.frame c.args.run.now did.new.run c.args.steps.now did.new.steps
           c.args.host.now did.new.host did.result did.ensures.stepped;
     }
+
+pub loops::step_on_copy-returns : goal.loops::step_on_copy-returns
+loops::step_on_copy-returns g t c =
+    let did = c.step_or_walk-progress in
+    record {
+      stepped = stepped_on_copy g.H.Host.law c.args.context.program.now c.args.context.engine.now
+          c.args.frame.now did.new.frame c.args.run.now did.new.run c.args.steps.now did.new.steps
+          c.args.host.now did.new.host did.result did.ensures.stepped;
+    }
+
+pub apart::pointer_or_native-returns-in-Native : goal.apart::pointer_or_native-returns-in-Native
+apart::pointer_or_native-returns-in-Native g t c =
+    let at = subst (λ (q : CallApart). StandsApart c.args.context.program.now c.args.frame.now
+    c.args.run.now q) c.in-Native.is c.requires.stands in
+    record { stepped = arm_bound refl refl refl at.0 c.requires.runs c.call_native.ensures.performs }
 
 pub apart::call_pointer-returns-in-Function : goal.apart::call_pointer-returns-in-Function
 apart::call_pointer-returns-in-Function g t c =
@@ -203,8 +224,11 @@ loops::run_from-returns-in-Returned g t c =
 
 pub loops::run_from-returns-in-Err : goal.loops::run_from-returns-in-Err
 loops::run_from-returns-in-Err g t c =
-    let did = done_after c.turn.steps c.begin_instruction.ensures c.mark.ensures c.in-Jump.ensures.0
-    c.in-Err.ensures.stepped in
+    let went = c.jump_to in
+    let did = done_from c.turn.steps c.begin_instruction.ensures c.mark.ensures
+    (c.in-Jump.ensures.leads c.turn.host (Err c.in-Err.e)
+    (moment went.new.frame went.new.self went.new.steps went.new.host)
+    c.in-Err.ensures.implements) in
     let left = c.leave_by_fault in
     record {
       goes = stops_by_memory c.turn.invariant c.in-Err.e did left.new.run left.ensures;
@@ -212,17 +236,52 @@ loops::run_from-returns-in-Err g t c =
       around = left_around_by_memory c.turn.invariant c.in-Err.e did left.new.run left.ensures;
     }
 
+pub loops::run_from-leave_by_fault-requires-clause-entered :
+    goal.loops::run_from-leave_by_fault-requires-clause-entered
+loops::run_from-leave_by_fault-requires-clause-entered g t c =
+    let went = c.jump_to in
+    let did = c.in-Jump.ensures.leads c.turn.host (Err c.in-Err.e)
+    (moment went.new.frame went.new.self went.new.steps went.new.host) c.in-Err.ensures.implements in
+    omega (
+      arith,
+      c.turn.invariant.runs.entered,
+      ap (λ (fs : List StackFrame). length fs) did.kept.outer,
+    )
+
+pub loops::run_from-leave_by_fault-requires-clause-unnoted :
+    goal.loops::run_from-leave_by_fault-requires-clause-unnoted
+loops::run_from-leave_by_fault-requires-clause-unnoted g t c =
+    let went = c.jump_to in
+    let did = c.in-Jump.ensures.leads c.turn.host (Err c.in-Err.e)
+    (moment went.new.frame went.new.self went.new.steps went.new.host) c.in-Err.ensures.implements in
+    did.kept.noted ∙ c.turn.invariant.runs.unnoted
+
+pub loops::run_from-turn-smaller-in-Continues : goal.loops::run_from-turn-smaller-in-Continues
+loops::run_from-turn-smaller-in-Continues g t c =
+    let went = c.jump_to in
+    turn_falls c.turn.invariant (done_so c.in-Continues.is
+    (done_from c.turn.steps c.begin_instruction.ensures c.mark.ensures
+    (c.in-Jump.ensures.leads c.turn.host (Ok c.in-Ok.progress)
+    (moment went.new.frame went.new.self went.new.steps went.new.host)
+    c.in-Ok.ensures.implements)))
+
 pub loops::run_from-turn-preserved-in-Continues : goal.loops::run_from-turn-preserved-in-Continues
 loops::run_from-turn-preserved-in-Continues g t c =
+    let went = c.jump_to in
     runs_on c.turn.invariant (done_so c.in-Continues.is
-    (done_after c.turn.steps c.begin_instruction.ensures c.mark.ensures c.in-Jump.ensures.0
-    c.in-Ok.ensures.stepped))
+    (done_from c.turn.steps c.begin_instruction.ensures c.mark.ensures
+    (c.in-Jump.ensures.leads c.turn.host (Ok c.in-Ok.progress)
+    (moment went.new.frame went.new.self went.new.steps went.new.host)
+    c.in-Ok.ensures.implements)))
 
 pub loops::run_from-returns-in-Returned-progress : goal.loops::run_from-returns-in-Returned-progress
 loops::run_from-returns-in-Returned-progress g t c =
+    let went = c.jump_to in
     let did = done_so c.in-Returned-progress.is
-    (done_after c.turn.steps c.begin_instruction.ensures c.mark.ensures c.in-Jump.ensures.0
-    c.in-Ok.ensures.stepped) in
+    (done_from c.turn.steps c.begin_instruction.ensures c.mark.ensures
+    (c.in-Jump.ensures.leads c.turn.host (Ok c.in-Ok.progress)
+    (moment went.new.frame went.new.self went.new.steps went.new.host)
+    c.in-Ok.ensures.implements)) in
     record {
       goes = led c.turn.invariant did;
       catches = tt;
@@ -231,9 +290,12 @@ loops::run_from-returns-in-Returned-progress g t c =
 
 pub loops::run_from-returns-in-Failed : goal.loops::run_from-returns-in-Failed
 loops::run_from-returns-in-Failed g t c =
+    let went = c.jump_to in
     let did = done_so c.in-Failed.is
-    (done_after c.turn.steps c.begin_instruction.ensures c.mark.ensures c.in-Jump.ensures.0
-    c.in-Ok.ensures.stepped) in
+    (done_from c.turn.steps c.begin_instruction.ensures c.mark.ensures
+    (c.in-Jump.ensures.leads c.turn.host (Ok c.in-Ok.progress)
+    (moment went.new.frame went.new.self went.new.steps went.new.host)
+    c.in-Ok.ensures.implements)) in
     let noted = c.note_stop in
     record {
       goes = stops_by_fault c.turn.invariant did noted.new.self noted.ensures;
@@ -296,61 +358,57 @@ loops::run_frame-returns-in-Value g t c = record {
   around = around_on c.frame.invariant c.in-Ok.ensures.around;
 }
 
-pub loops::run_frame-catch-requires-clause-catches : goal.loops::run_frame-catch-requires-clause-catches
-loops::run_frame-catch-requires-clause-catches g t c = (
+pub loops::run_frame-offer-requires-clause-catches : goal.loops::run_frame-offer-requires-clause-catches
+loops::run_frame-offer-requires-clause-catches g t c = (
   stopped_frame c.args.chunk.now c.args.base c.run_from.new.run,
   (subst (λ (q : Stop). StopsSo c.args.context.program.now c.args.chunk.now c.args.base
       c.run_from.new.run (Ok q)) c.in-Fault.is c.in-Ok.ensures.catches).1,
 )
 
-pub loops::run_frame-returns-in-Err-catch : goal.loops::run_frame-returns-in-Err-catch
-loops::run_frame-returns-in-Err-catch g t c =
+pub loops::run_frame-returns-in-Err-offer : goal.loops::run_frame-returns-in-Err-offer
+loops::run_frame-returns-in-Err-offer g t c =
     let at = stopped_frame c.args.chunk.now c.args.base c.run_from.new.run in
     record {
       goes = compose (compose c.frame.invariant.goes
           (stopped_so c.args.chunk.now c.args.base c.run_from.new.run c.in-Fault.is
-          c.in-Ok.ensures.goes) tt) (c.in-Err-catch.ensures.goes at refl refl refl) tt;
-      around = around_caught c.frame.invariant c.in-Ok.ensures.around c.in-Err-catch.ensures.kept
-          c.catch.ensures.before;
+          c.in-Ok.ensures.goes) tt) (c.in-Err-offer.ensures.goes at refl refl refl) tt;
+      around = around_caught c.frame.invariant c.in-Ok.ensures.around c.in-Err-offer.ensures.kept
+          c.offer.ensures.before;
     }
 
-pub loops::run_frame-returns-in-None : goal.loops::run_frame-returns-in-None
-loops::run_frame-returns-in-None g t c =
+pub loops::run_frame-returns-then-not-caught : goal.loops::run_frame-returns-then-not-caught
+loops::run_frame-returns-then-not-caught g t c =
     let at = stopped_frame c.args.chunk.now c.args.base c.run_from.new.run in
-    let kept =
-    subst (λ (o : Option ℕ). Caught c.args.context.engine.now c.run_from.new.run c.catch.new.run
-    (Ok o)) c.in-None.is c.in-Ok-catch.ensures.kept in
+    let went = c.offer.new in
+    let none : c.in-Ok-offer.caught ≡ false = search rules in
+    let kept = subst (λ (b : Bool). Caught c.args.context.engine.now c.run_from.new.run went.run
+    (caught_at (Ok b) went.address)) none c.in-Ok-offer.ensures.kept in
     record {
       goes = compose (compose c.frame.invariant.goes
           (stopped_so c.args.chunk.now c.args.base c.run_from.new.run c.in-Fault.is
           c.in-Ok.ensures.goes) tt)
-          (offered_so (frame_in at c.catch.new.run) c.catch.new.run.fault c.in-None.is
-          (c.in-Ok-catch.ensures.goes at refl refl refl)) tt;
-      around = around_caught c.frame.invariant c.in-Ok.ensures.around kept c.catch.ensures.before;
+          (offered_so (frame_in at went.run) went.run.fault went.address none
+          (c.in-Ok-offer.ensures.goes at refl refl refl)) tt;
+      around = around_caught c.frame.invariant c.in-Ok.ensures.around kept c.offer.ensures.before;
     }
 
 pub loops::run_frame-frame-preserved : goal.loops::run_frame-frame-preserved
 loops::run_frame-frame-preserved g t c =
     let ran = c.run_from.new in
-    let caught = c.catch.new in
-    let offers = c.in-Ok-catch.ensures in
+    let caught = c.offer.new in
+    let offers = c.in-Ok-offer.ensures in
     let at = stopped_frame c.args.chunk.now c.args.base c.run_from.new.run in
+    let has : c.in-Ok-offer.caught ≡ true = search rules in
     caught_on c.args.chunk.now c.args.base c.frame.address c.frame.floor
-    c.in-Some.target c.frame.run ran.run caught.run c.frame.steps ran.steps caught.steps
+    caught.address caught.floor c.frame.run ran.run caught.run c.frame.steps ran.steps caught.steps
     c.frame.host ran.host caught.host c.frame.invariant c.in-Fault.is c.in-Ok.ensures.goes
-    c.in-Ok.ensures.catches c.in-Ok.ensures.around c.in-Some.is (offers.goes at refl refl refl)
-    offers.kept (offers.typed at) c.catch.ensures.before
-
-pub apart::call_or_walk-returns-in-Call : goal.apart::call_or_walk-returns-in-Call
-apart::call_or_walk-returns-in-Call g t c =
-    let at = subst (λ (q : Pending). IsPending c.args.context.program.now c.args.frame.now
-    c.args.run.now q) c.in-Call.is c.pending_at.ensures in
-    record { stepped = arm_bound refl refl refl at c.requires.runs c.call_native.ensures.performs }
+    c.in-Ok.ensures.catches c.in-Ok.ensures.around has (offers.goes at refl refl refl)
+    offers.kept (offers.typed at) offers.floor c.offer.ensures.before
 
 pub apart::step_or_walk-returns-in-None : goal.apart::step_or_walk-returns-in-None
 apart::step_or_walk-returns-in-None g t c =
     let did = c.step_plain.new in
-    let walked = c.call_or_walk in
+    let walked = c.walk_or_wait in
     record {
       stepped = stepped_from g.H.Host.law c.args.context.program.now c.args.context.engine.now
           c.args.frame.now did.frame c.args.run.now did.run c.args.steps.now did.steps

@@ -82,18 +82,22 @@ decreases-apart::walk_or_wait g l =
 
 abbrev pub decreases-apart::step_or_walk : goal.decreases-apart::step_or_walk
 decreases-apart::step_or_walk g l =
-    32 * left l.context.engine.now l.run.now.count l.frame.now.address + 12
-
-abbrev pub decreases-apart::call_or_walk : goal.decreases-apart::call_or_walk
-decreases-apart::call_or_walk g l =
     32 * left l.context.engine.now l.run.now.count l.frame.now.address + 11
 
 abbrev pub decreases-apart::call_pointer : goal.decreases-apart::call_pointer
 decreases-apart::call_pointer g l =
     32 * left l.context.engine.now l.run.now.count l.frame.now.address + 8
 
-abbrev pub decreases-apart::step_apart : goal.decreases-apart::step_apart
-decreases-apart::step_apart g l =
+abbrev pub decreases-apart::pointer_or_native : goal.decreases-apart::pointer_or_native
+decreases-apart::pointer_or_native g l =
+    32 * left l.context.engine.now l.run.now.count l.frame.now.address + 12
+
+abbrev pub decreases-loops::call_on_copy : goal.decreases-loops::call_on_copy
+decreases-loops::call_on_copy g l =
+    32 * left l.context.engine.now l.run.now.count l.frame.now.address + 13
+
+abbrev pub decreases-loops::step_on_copy : goal.decreases-loops::step_on_copy
+decreases-loops::step_on_copy g l =
     32 * left l.context.engine.now l.run.now.count l.frame.now.address + 13
 
 abbrev pub decreases-loops::proceed : goal.decreases-loops::proceed

@@ -1,35 +1,28 @@
 -- The instruction that was fetched is the one at which the frame stands.
-use Rattle.std.proofs.Common.{length, refl}
-use Rattle.grain_frame.specs.lemmas.Arms.{ready, stands, typed_with}
+use Rattle.std.proofs.Common.{refl}
+use Rattle.grain_frame.specs.lemmas.Arms.{ready, stands}
 use Rattle.grain_vm.proofs.WaitsAhead.{turned}
 use Rattle.grain_vm.proofs.stepping.step.Goals as goal
-
-pub fetch-requires : goal.fetch-requires
-fetch-requires g c = (
-  length c.args.run.now.stacks.cursors,
-  typed_with c.args.context.program.now c.args.frame.now c.args.run.now c.height-depth.result
-      c.height-depth.ensures c.requires.runs,
-)
 
 pub perform-requires-clause-stands : goal.perform-requires-clause-stands
 perform-requires-clause-stands g c =
     stands g.H.Host.law c.args.context.program.now c.args.context.engine.now c.args.frame.now
     c.args.run.now c.fetch.result.0 c.fetch.result.0 c.fetch.result.1
-    c.height-depth.result refl c.height-depth.ensures c.requires.runs c.fetch.ensures.verified
+    refl c.requires.runs c.fetch.ensures.verified
     c.fetch.ensures.read
 
 pub perform-requires-clause-ready : goal.perform-requires-clause-ready
 perform-requires-clause-ready g c =
     ready g.H.Host.law c.args.context.program.now c.args.context.engine.now c.args.frame.now
     c.args.run.now c.fetch.result.0 c.fetch.result.0 c.fetch.result.1
-    c.height-depth.result refl c.height-depth.ensures c.requires.runs c.fetch.ensures.verified
+    refl c.requires.runs c.fetch.ensures.verified
 
 pub returns-in-Chain-default : goal.returns-in-Chain-default
 returns-in-Chain-default g c =
     let at =
     stands g.H.Host.law c.args.context.program.now c.args.context.engine.now c.args.frame.now
     c.args.run.now c.fetch.result.0 c.fetch.result.0 c.fetch.result.1
-    c.height-depth.result refl c.height-depth.ensures c.requires.runs c.fetch.ensures.verified
+    refl c.requires.runs c.fetch.ensures.verified
     c.fetch.ensures.read in
     record { steps = (rw c.in-Chain-default.is-0 at at, refl) }
 
@@ -38,7 +31,7 @@ returns-in-CallOp-default g c =
     let at =
     stands g.H.Host.law c.args.context.program.now c.args.context.engine.now c.args.frame.now
     c.args.run.now c.fetch.result.0 c.fetch.result.0 c.fetch.result.1
-    c.height-depth.result refl c.height-depth.ensures c.requires.runs c.fetch.ensures.verified
+    refl c.requires.runs c.fetch.ensures.verified
     c.fetch.ensures.read in
     record {
       steps = turned refl refl (rw c.in-CallOp-default.is-0 at at) c.requires.runs c.call_op.result
@@ -50,7 +43,7 @@ returns-in-AssignLocalOp-default g c =
     let at =
     stands g.H.Host.law c.args.context.program.now c.args.context.engine.now c.args.frame.now
     c.args.run.now c.fetch.result.0 c.fetch.result.0 c.fetch.result.1
-    c.height-depth.result refl c.height-depth.ensures c.requires.runs c.fetch.ensures.verified
+    refl c.requires.runs c.fetch.ensures.verified
     c.fetch.ensures.read in
     record {
       steps = turned refl refl (rw c.in-AssignLocalOp-default.is-0 at at) c.requires.runs
@@ -63,7 +56,7 @@ returns-in-AssignThisOp-default g c =
     let at =
     stands g.H.Host.law c.args.context.program.now c.args.context.engine.now c.args.frame.now
     c.args.run.now c.fetch.result.0 c.fetch.result.0 c.fetch.result.1
-    c.height-depth.result refl c.height-depth.ensures c.requires.runs c.fetch.ensures.verified
+    refl c.requires.runs c.fetch.ensures.verified
     c.fetch.ensures.read in
     record {
       steps = turned refl refl (rw c.in-AssignThisOp-default.is-0 at at) c.requires.runs
@@ -76,7 +69,7 @@ returns-in-InterpolateAppend-default g c =
     let at =
     stands g.H.Host.law c.args.context.program.now c.args.context.engine.now c.args.frame.now
     c.args.run.now c.fetch.result.0 c.fetch.result.0 c.fetch.result.1
-    c.height-depth.result refl c.height-depth.ensures c.requires.runs c.fetch.ensures.verified
+    refl c.requires.runs c.fetch.ensures.verified
     c.fetch.ensures.read in
     record {
       steps = turned refl refl (rw c.in-InterpolateAppend-default.is-0 at at) c.requires.runs
@@ -89,7 +82,7 @@ returns-in-CallFnPtrMethod-default g c =
     let at =
     stands g.H.Host.law c.args.context.program.now c.args.context.engine.now c.args.frame.now
     c.args.run.now c.fetch.result.0 c.fetch.result.0 c.fetch.result.1
-    c.height-depth.result refl c.height-depth.ensures c.requires.runs c.fetch.ensures.verified
+    refl c.requires.runs c.fetch.ensures.verified
     c.fetch.ensures.read in
     record { steps = (rw c.in-CallFnPtrMethod-default.is-0 at at, refl) }
 
@@ -98,7 +91,7 @@ returns-in-CallFnPtrOnLocal-default g c =
     let at =
     stands g.H.Host.law c.args.context.program.now c.args.context.engine.now c.args.frame.now
     c.args.run.now c.fetch.result.0 c.fetch.result.0 c.fetch.result.1
-    c.height-depth.result refl c.height-depth.ensures c.requires.runs c.fetch.ensures.verified
+    refl c.requires.runs c.fetch.ensures.verified
     c.fetch.ensures.read in
     record { steps = (rw c.in-CallFnPtrOnLocal-default.is-0 at at, refl) }
 
@@ -107,6 +100,6 @@ returns-in-CallFnPtrOnThis-default g c =
     let at =
     stands g.H.Host.law c.args.context.program.now c.args.context.engine.now c.args.frame.now
     c.args.run.now c.fetch.result.0 c.fetch.result.0 c.fetch.result.1
-    c.height-depth.result refl c.height-depth.ensures c.requires.runs c.fetch.ensures.verified
+    refl c.requires.runs c.fetch.ensures.verified
     c.fetch.ensures.read in
     record { steps = (rw c.in-CallFnPtrOnThis-default.is-0 at at, refl) }

@@ -1,29 +1,18 @@
 -- The branch is done from where its comparison would have left the frame.
-use Rattle.std.proofs.Common.{rules, ◌≡◌, ◌+◌, List, length, refl, ap, arith, w64, FitsSigned}
+use Rattle.std.proofs.Common.{rules, refl, w64, FitsSigned}
 use Rattle.std.proofs.lemmas.Int.{to_z-of_z}
-use Rattle.grain_value.specs.declared.values.Held.{Held}
 use Rattle.grain_program.specs.declared.code.instruction_set.Op.TheVariants as op
 use Rattle.grain_vm.specs.Following.{judged, loaded, begun_behind}
 use Rattle.grain_frame.specs.Abstraction.{begun_one, marked_once, moved}
-use Rattle.grain_frame.specs.lemmas.Arms.{stepped, typed_with}
+use Rattle.grain_frame.specs.lemmas.Arms.{is_typed, stepped}
 use Rattle.grain_vm.proofs.Tried.{tried}
-use Rattle.grain_vm.proofs.Paired.{judged_length}
 use Rattle.grain_vm.proofs.two_loads.pair_branch.Goals as goal
 
-pub fetch-requires : goal.fetch-requires
-fetch-requires g c =
-    let p = c.args.context.program.now in
-    let f = moved c.args.frame.now c.args.at in
-    let s = loaded (loaded c.args.run.now c.args.first) c.args.second in
-    let depth = length c.frame_operands.result.now + 1 in (
-      length s.stacks.cursors,
-      typed_with p f (judged s c.args.truth) depth
-          (omega (
-            arith,
-            ap (λ (l : List Held). length l) c.frame_operands.ensures,
-            judged_length c.args.run.now c.args.first c.args.second c.args.truth,
-          )) c.requires.runs,
-    )
+pub fetch_at-requires : goal.fetch_at-requires
+fetch_at-requires g c =
+    is_typed c.args.context.program.now (moved c.args.frame.now c.args.at)
+    (judged (loaded (loaded c.args.run.now c.args.first) c.args.second) c.args.truth)
+    c.requires.runs
 
 pub returns-in-JumpIfFalse-default-clause-stepped :
     goal.returns-in-JumpIfFalse-default-clause-stepped
@@ -32,13 +21,6 @@ returns-in-JumpIfFalse-default-clause-stepped g c =
     let e = c.args.context.engine.now in
     let f = moved c.args.frame.now c.args.at in
     let s = loaded (loaded c.args.run.now c.args.first) c.args.second in
-    let depth = length c.frame_operands.result.now + 1 in
-    let deep : depth ≡ length (judged s c.args.truth).stacks.operands =
-    omega (
-      arith,
-      ap (λ (l : List Held). length l) c.frame_operands.ensures,
-      judged_length c.args.run.now c.args.first c.args.second c.args.truth,
-    ) in
     let to = c.pair_branch_to in
     let x = c.args.first in
     let y = c.args.second in
@@ -47,9 +29,9 @@ returns-in-JumpIfFalse-default-clause-stepped g c =
     tried to.result
     (rw (to_z-of_z w64 x x_fits, to_z-of_z w64 y y_fits) at to.ensures.implements)
     (λ did host. stepped g.H.Host.law p e f (judged s c.args.truth)
-    c.fetch.result.0 (op.JumpIfFalse c.in-JumpIfFalse-default.target) c.fetch.result.1
-    depth c.in-JumpIfFalse-default.is-0 deep c.requires.runs
-    c.fetch.ensures.verified c.fetch.ensures.read refl refl
+    c.fetch_at.result.0 (op.JumpIfFalse c.in-JumpIfFalse-default.target) c.fetch_at.result.1
+    c.in-JumpIfFalse-default.is-0 c.requires.runs
+    c.fetch_at.ensures.verified c.fetch_at.ensures.read refl refl
     (begun_one (marked_once (begun_behind (begun_behind c.args.steps.now))))
     to.new.frame to.new.run to.new.steps host host (did host))
 
@@ -59,13 +41,6 @@ returns-in-JumpIfTrue-default-clause-stepped g c =
     let e = c.args.context.engine.now in
     let f = moved c.args.frame.now c.args.at in
     let s = loaded (loaded c.args.run.now c.args.first) c.args.second in
-    let depth = length c.frame_operands.result.now + 1 in
-    let deep : depth ≡ length (judged s c.args.truth).stacks.operands =
-    omega (
-      arith,
-      ap (λ (l : List Held). length l) c.frame_operands.ensures,
-      judged_length c.args.run.now c.args.first c.args.second c.args.truth,
-    ) in
     let to = c.pair_branch_to-in-JumpIfTrue-default in
     let x = c.args.first in
     let y = c.args.second in
@@ -74,8 +49,8 @@ returns-in-JumpIfTrue-default-clause-stepped g c =
     tried to.result
     (rw (to_z-of_z w64 x x_fits, to_z-of_z w64 y y_fits) at to.ensures.implements)
     (λ did host. stepped g.H.Host.law p e f (judged s c.args.truth)
-    c.fetch.result.0 (op.JumpIfTrue c.in-JumpIfTrue-default.target) c.fetch.result.1
-    depth c.in-JumpIfTrue-default.is-0 deep c.requires.runs
-    c.fetch.ensures.verified c.fetch.ensures.read refl refl
+    c.fetch_at.result.0 (op.JumpIfTrue c.in-JumpIfTrue-default.target) c.fetch_at.result.1
+    c.in-JumpIfTrue-default.is-0 c.requires.runs
+    c.fetch_at.ensures.verified c.fetch_at.ensures.read refl refl
     (begun_one (marked_once (begun_behind (begun_behind c.args.steps.now))))
     to.new.frame to.new.run to.new.steps host host (did host))

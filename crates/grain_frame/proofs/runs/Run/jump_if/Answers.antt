@@ -8,7 +8,7 @@ use Rattle.grain_means.specs.Simulation.{stopped, world}
 use Rattle.grain_means.specs.Means.{setup}
 use Rattle.grain_frame.specs.Abstraction.{abstraction}
 use Rattle.grain_frame.specs.lemmas.Arms.{implements_after, to_target, to_next}
-use Rattle.grain_frame.proofs.Jumping.{if_jumps}
+use Rattle.grain_frame.specs.lemmas.Jumping.{if_jumps}
 use Rattle.grain_frame.proofs.runs.Run.jump_if.Goals as goal
 
 pub returns-then-agrees : goal.returns-then-agrees

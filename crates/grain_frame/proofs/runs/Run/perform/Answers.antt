@@ -364,13 +364,13 @@ returns-in-MakeMap g c = record {
 pub returns-in-CheckArraySize : goal.returns-in-CheckArraySize
 returns-in-CheckArraySize g c = record {
   stepped = arm c.in-CheckArraySize.is refl refl c.requires.stands c.requires.runs
-      (c.check_size.ensures.implements c.args.host.now);
+      (c.check_array_size.ensures.performs c.args.host.now);
 }
 
 pub returns-in-CheckMapSize : goal.returns-in-CheckMapSize
 returns-in-CheckMapSize g c = record {
   stepped = arm c.in-CheckMapSize.is refl refl c.requires.stands c.requires.runs
-      (c.check_size-in-CheckMapSize.ensures.implements c.args.host.now);
+      (c.check_map_size.ensures.performs c.args.host.now);
 }
 
 pub returns-in-InterpolateStart : goal.returns-in-InterpolateStart

@@ -11,7 +11,7 @@ pub read_there-width-requires-clause-there : goal.read_there-width-requires-clau
 read_there-width-requires-clause-there c =
     let s =
     stands c.args.self.now (subst IsProgram c.self.view_is c.self.invariant.0) c.args.chunk
-    c.args.address c.args.depth c.requires.0 c.requires.1.0 c.requires.1.1 in
+    c.args.address c.requires.0 c.requires.1.0 c.requires.1.1.0 c.requires.1.1.1 in
     (op_at_there _ c.args.address s.0 (ap (λ (v : View). op_at v.code c.args.address) c.self.view_is
     ∙ s.1)).0
 
@@ -19,7 +19,7 @@ pub read_there-width-requires-clause-known : goal.read_there-width-requires-clau
 read_there-width-requires-clause-known c =
     let s =
     stands c.args.self.now (subst IsProgram c.self.view_is c.self.invariant.0) c.args.chunk
-    c.args.address c.args.depth c.requires.0 c.requires.1.0 c.requires.1.1 in
+    c.args.address c.requires.0 c.requires.1.0 c.requires.1.1.0 c.requires.1.1.1 in
     (op_at_there _ c.args.address s.0 (ap (λ (v : View). op_at v.code c.args.address) c.self.view_is
     ∙ s.1)).1
 
@@ -27,15 +27,15 @@ pub read_there-width-requires-clause-long : goal.read_there-width-requires-claus
 read_there-width-requires-clause-long c =
     let s =
     stands c.args.self.now (subst IsProgram c.self.view_is c.self.invariant.0) c.args.chunk
-    c.args.address c.args.depth c.requires.0 c.requires.1.0 c.requires.1.1 in
+    c.args.address c.requires.0 c.requires.1.0 c.requires.1.1.0 c.requires.1.1.1 in
     (op_at_there _ c.args.address s.0 (ap (λ (v : View). op_at v.code c.args.address) c.self.view_is
     ∙ s.1)).2
 
 pub returns-clause-verified : goal.returns-clause-verified
-returns-clause-verified c = λ cursors handlers typed.
+returns-clause-verified c = λ depth cursors handlers typed.
     let p = c.args.self.now in
     let valid = subst IsProgram c.self.view_is c.self.invariant.0 in
-    verified p valid c.args.chunk c.args.address c.args.depth cursors handlers typed (
+    verified p valid c.args.chunk c.args.address depth cursors handlers typed (
       c.read_there-width.new.op,
       c.read_there-width.result,
     )
@@ -43,12 +43,12 @@ returns-clause-verified c = λ cursors handlers typed.
     ∙ c.read_there-width.ensures)
 
 pub returns-clause-provides : goal.returns-clause-provides
-returns-clause-provides c =
+returns-clause-provides c = λ depth cursors handlers typed.
     let p = c.args.self.now in
     let valid = subst IsProgram c.self.view_is c.self.invariant.0 in
     let here =
-    verified p valid c.args.chunk c.args.address c.args.depth c.requires.0 c.requires.1.0
-    c.requires.1.1 (c.read_there-width.new.op, c.read_there-width.result)
+    verified p valid c.args.chunk c.args.address depth cursors handlers typed
+    (c.read_there-width.new.op, c.read_there-width.result)
     (ap (λ (v : View). op_at v.code c.args.address) (sym c.self.view_is)
     ∙ c.read_there-width.ensures) in
     here.provides
