@@ -1,5 +1,6 @@
 -- A native is sought, and the host is called.
-use Rattle.std.proofs.Common.{◌≡◌, ◌∙◌, ◌≤◌, ◌+◌, ◌-◌, ℕ, List, [], ◌∷◌, Option, None, Some, true, false, inl, inr, Result, Ok, Err, length, map, refl, ap, subst, arith}
+use Rattle.std.proofs.Common.{◌≡◌, ◌∙◌, ◌≤◌, ◌+◌, ◌-◌, ℕ, Bool, List, [], ◌∷◌, Option, None, Some, true, false, inl, inr, Result, Ok, Err, length, map, refl, ap, subst, arith}
+use Rattle.std.specs.Prelude.{◌&&◌, if◌then◌else◌}
 use Rattle.grain_value.specs.Tree.{Tree}
 use Rattle.grain_value.specs.declared.values.Dynamic.{Dynamic}
 use Rattle.grain_value.specs.declared.values.Held.{Held}
@@ -12,7 +13,10 @@ use Rattle.grain_fault.specs.declared.faults.EvalAltResult.{EvalAltResult}
 use Rattle.grain_fault.specs.Problems.{Problem, problem_of}
 use Rattle.grain_program.specs.View.{View}
 use Rattle.grain_stack.specs.Views.{StacksView}
-use Rattle.grain_host.specs.Law.{Law, native_of}
+use Rattle.grain_value.specs.declared.natives.Native.{Native}
+use Rattle.grain_host.specs.Law.{Law, Reply, native_of}
+use Rattle.grain_host.specs.Answers.{Replies}
+use Rattle.grain_host.specs.declared.host_answers.Args.{Args}
 use Rattle.grain_global.specs.declared.engines.Engine.{Engine}
 use Rattle.grain_stack.specs.declared.handlers.Handler.{Handler}
 use Rattle.grain_means.specs.Worlds.{Act, Frame, Place, Setup, World}
@@ -26,7 +30,7 @@ use Rattle.grain_means.specs.Means.{setup}
 use Rattle.grain_means.specs.lemmas.Stretches.{then_exactly}
 use Rattle.grain_global.specs.StepsView.{StepsView}
 use Rattle.grain_frame.specs.Abstraction.{abstraction, frame_in, is_out, continuation, native_continuation, KeepsFrame, ContinuesAt, Progresses, Implements, moment}
-use Rattle.grain_frame.specs.Natives.{Describes, IsAt, Seeks, Serves}
+use Rattle.grain_frame.specs.Natives.{Describes, EndsBy, IsAt, Seeks, Serves, callable, callable_key}
 use Rattle.grain_frame.specs.declared.activations.Activation.{Activation}
 use Rattle.grain_frame.specs.declared.native_calls.NativeEnd.{NativeEnd}
 use Rattle.grain_frame.specs.declared.native_calls.NativeEnd.TheVariants as native_end
@@ -148,6 +152,57 @@ module _ {H : Type 0} (law : Law H) (s : Run H) (n : StepsView) (host : H) (q : 
           order = omega arith;
           equal = λ stop clear halts u place. rw (own, seeks.1, seeks.2, halts) refl;
         })
+
+-- the key that may be called is that of a native which does not write, or whose first argument can be
+-- written
+found_one : (o : Option Native) (read_only : Bool) (key : ℕ) → callable_key read_only o ≡ Some key →
+    (n : Native) × (o ≡ Some n) × ((n.writes && read_only) ≡ false) × (key ≡ n.key)
+found_one None read_only key is = absurd cc
+found_one (Some n) read_only key is =
+    let both = decided (n.writes && read_only) is in (n, refl, both.0, both.1) where
+      decided : (b : Bool) → (if b then None else Some n.key) ≡ Some key →
+          (b ≡ false) × (key ≡ n.key)
+      decided true none = absurd cc
+      decided false same = (refl, cc)
+
+-- it is a native that the host has for these arguments
+pub may_be_called : {H : Type 0} (law : Law H) (host : H) (name : List ℕ) (args : List Held)
+    (a : Arguments) (q : Position) (key : ℕ) → Describes a args →
+    callable law host name a.kinds a.read_only ≡ Some key →
+    Seeks law host name None args q (sought.Native key a.values)
+may_be_called law host name args a q key describes is =
+    let one = found_one (native_of law host name a.kinds) a.read_only key is in (
+      one.0,
+      subst (λ (ks : List ℕ). native_of law host name ks ≡ Some one.0) describes.kinds one.1,
+      subst (λ (b : Bool). (one.0.writes && b) ≡ false) describes.read_only one.2,
+      one.3,
+      describes.values,
+    )
+
+-- where no key may be called, none is found
+pub may_not_be_called : {H : Type 0} (law : Law H) (host : H) (name : List ℕ) (args : List Held)
+    (a : Arguments) (q : Position) (key : ℕ) (values : List Tree) → Describes a args →
+    callable law host name a.kinds a.read_only ≡ None →
+    Seeks law host name None args q (sought.Native key values) → ⊥
+may_not_be_called law host name args a q key values describes none seeks =
+    is_none (rw (describes.kinds, describes.read_only, seeks.1, seeks.2) at none) where
+      is_none : Some seeks.0.key ≡ None → ⊥
+      is_none none = absurd cc
+
+-- what a native that was lent nothing came to, by the host's answer
+pub serves_by : {H : Type 0} (law : Law H) (s : Run H) (n n' : StepsView) (asked host : H) (key : ℕ)
+    (values : List Tree) (q : Position) (said : Option Reply) (left : Args)
+    (r : Result NativeEnd OutOfMemory) → EndsBy said q r n n' →
+    Replies law asked key (record { receiver = None; values = values }) said host left →
+    Serves law s n asked key None values q r s n' host
+serves_by law s n n' asked host key values q said left (Ok (native_end.Value v)) ends replies =
+    let did = rw ends.0 at replies in (did.0, did.1, refl, ends.1)
+serves_by law s n n' asked host key values q said left (Ok (native_end.Fault x)) ends replies =
+    let did = rw ends.1 at replies in (ends.0, did.0, did.1, ends.2, refl, ends.3)
+serves_by law s n n' asked host key values q said left (Ok (native_end.Asks a)) ends replies =
+    let did = rw ends.0 at replies in (did.0, did.1, refl, ends.1)
+serves_by law s n n' asked host key values q said left (Err e) ends replies =
+    let did = rw ends.0 at replies in (did.0, refl, ends.1)
 
 -- one stretch after another that keep the frame
 pub kept_on : {H : Type 0} (f g h : Activation) (s t u : Run H) → KeepsFrame f s g t →

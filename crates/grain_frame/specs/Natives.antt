@@ -1,5 +1,5 @@
 -- What a native is given, and what was found for it.
-use Rattle.std.specs.Prelude.{◌≡◌, ◌⊎◌, ◌+◌, ℕ, List, Option, None, Some, true, false, ◌&&◌, Result, Ok, Err}
+use Rattle.std.specs.Prelude.{◌≡◌, ◌⊎◌, ◌+◌, ℕ, Bool, List, Option, None, Some, true, false, ◌&&◌, if◌then◌else◌, Result, Ok, Err}
 use Rattle.grain_value.specs.Tree.{Tree}
 use Rattle.grain_value.specs.Operands.{values_in}
 use Rattle.grain_value.specs.declared.values.Held.{Held}
@@ -43,6 +43,15 @@ Seeks law s name r args p (sought.Fault x) =
     ⊎ ((n : Native) × (native_of law s name (kinds_in (given r args)) ≡ Some n)
     × ((n.writes && first_is_read_only (given r args)) ≡ true)
     × (problem_of x ≡ Plain (NonPureCall name) p))
+
+-- the key of the native that was found, unless it writes and its first argument can only be read
+abbrev pub callable_key : Bool → Option Native → Option ℕ
+callable_key read_only None = None
+callable_key read_only (Some n) = if n.writes && read_only then None else Some n.key
+
+-- the key of the native of a name that may be called with arguments of these kinds, if there is one
+abbrev pub callable : {S : Type 0} → Law S → S → List ℕ → List ℕ → Bool → Option ℕ
+callable law s name kinds read_only = callable_key read_only (native_of law s name kinds)
 
 -- what comes of the host's answer: two marks are passed, or where memory is out, none
 abbrev pub EndsBy : Option Reply → Position → Result NativeEnd OutOfMemory → StepsView → StepsView →

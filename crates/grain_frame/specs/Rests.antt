@@ -19,8 +19,8 @@ abbrev pub awaits_left : Option Waiting → ℕ
 awaits_left (Some w) = waits_left w.rest
 awaits_left None = 0
 
--- If it waits once more, for this native, then less often than before. That there is one is said by
--- `LandsOrWaits`.
+-- If it waits once more, the run has it (`x`), and it waits less often than before. That the run has one
+-- is said by `LandsOrWaits`.
 abbrev pub WaitsLess : Rest → Result Performed OutOfMemory → Option Waiting → Type 0
 WaitsLess r (Ok (performed.Leads p)) x = Unit {0}
 WaitsLess r (Ok performed.Waits) x = IfSome x (λ w. waits_left w.rest < waits_left r)

@@ -10,11 +10,11 @@ ghost use Rattle.grain_frame.specs.Abstraction.{abstraction, is_out, charge_cont
 ghost use Rattle.grain_fault.specs.declared.faults.EvalAltResult.TheVariants as fault;
 
 use crate::contexts::Context;
-use crate::runs::{Progress, Run};
+use crate::runs::Run;
 use grain_fault::{EvalAltResult, Position};
 use grain_global::Steps;
 use grain_host::{Host, ProgressAnswer};
-use grain_value::{Dynamic, OutOfMemory};
+use grain_value::OutOfMemory;
 use std::sync::ledger::Ledger;
 
 impl<H: Host> Run<H> {

@@ -1,6 +1,6 @@
 //! Texts that are made of segments.
 
-ghost use Rattle.std.specs.Prelude.{◌≡◌, ◌<◌, ◌≤◌, ◌+◌, ◌∷◌, [], length, None, Some, IfOk, is_some, true};
+ghost use Rattle.std.specs.Prelude.{◌≡◌, ◌<◌, ◌+◌, ◌∷◌, [], length, None, Some, IfOk, is_some, true};
 ghost use Rattle.grain_value.specs.Cells.{flat};
 ghost use Rattle.grain_value.specs.Looking.{text_of};
 ghost use Rattle.grain_value.specs.Operands.{top};

@@ -1,22 +1,17 @@
 //! Natives: what the host is asked for, and how it is called.
 
-ghost use Rattle.std.specs.Prelude.{◌≡◌, ◌<◌, ◌≤◌, ◌+◌, ◌-◌, ◌++◌, ◌∷◌, [], ℕ, List, Option, None, Some, true, is_some, length, IfOk};
-ghost use Rattle.grain_value.specs.Operands.{arguments, under};
+ghost use Rattle.std.specs.Prelude.{◌≡◌, ◌++◌, ◌∷◌, [], ℕ, List, Option, None, Some, true, is_some, IfOk};
 ghost use Rattle.grain_value.specs.declared.values.Dynamic.{Dynamic};
 ghost use Rattle.grain_value.specs.declared.values.Held.{Held};
 ghost use Rattle.grain_means.specs.Worlds.{Setup, Frame, Place, World, Act};
-ghost use Rattle.grain_means.specs.Rules.{native, flat_all, pushed, raised, call_function};
+ghost use Rattle.grain_means.specs.Rules.{native, flat_all};
 ghost use Rattle.grain_means.specs.Simulation.{SimulatesExactly};
-ghost use Rattle.grain_frame.specs.Abstraction.{abstraction, is_out, native_continuation, frame_in, setup_of, moment};
-ghost use Rattle.grain_frame.specs.Waiting.{ImplementsOrWaits};
+ghost use Rattle.grain_frame.specs.Abstraction.{abstraction, is_out, native_continuation};
 ghost use Rattle.grain_frame.specs.Natives.{Describes, IsAt, Seeks, Serves, EndsBy};
 ghost use Rattle.grain_fault.specs.Problems.{Problem};
 ghost use Rattle.grain_host.specs.Answers.{reply_of};
 
-use crate::activations::Activation;
-use crate::contexts::Context;
-use crate::runs::{Progress, Run};
-use crate::waiting::{Loan, Performed, Rest, Waiting};
+use crate::runs::Run;
 use grain_fault::{EvalAltResult, Position};
 use grain_global::Steps;
 use grain_host::{Args, Host, HostAnswer, not_found};
@@ -240,83 +235,5 @@ impl<H: Host> Run<H> {
         };
         let answer = host.call(self.alloc, key, &mut args);
         served(steps, answer, position)
-    }
-
-    // The host's native of a name on the last `count` operands, none of which is a lent cell, as they
-    // are read. Its value stands in their place.
-    #[cold]
-    #[inline(never)]
-    pub(crate) fn native_on<L: Ledger>(
-        &mut self,
-        context: Context<'_>,
-        host: &mut H,
-        steps: &mut Steps<L>,
-        frame: &mut Activation,
-        name: &Text,
-        count: usize,
-        next: usize,
-    ) -> Result<Performed, OutOfMemory>
-        requires inside { frame.old.base ≤ length self.old.scope }
-        requires operands { count ≤ length self.old.stacks.operands }
-        requires readable { is_some
-            (flat_all self.old.cells (arguments count self.old.stacks.operands)) ≡ true }
-        requires room { length self.old.stacks.operands - count < self.old.stacks.room }
-        requires ahead { frame.old.address < next }
-        ensures implements { (args : List Held) → flat_all self.old.cells
-            (arguments count self.old.stacks.operands) ≡ Some args →
-            ImplementsOrWaits (setup_of H.law context.entry) (moment frame.old self.old steps.old host.old)
-            (λ m place w. native m name.now None args (frame_in frame.old self.old place) w
-            (λ v w1. pushed m (frame_in frame.old self.old place) next
-            (under count self.old.stacks.operands) v w1)
-            (raised m (frame_in frame.old self.old place))) (next ∷ []) count 1
-            self.old.stacks.handlers result (moment frame.new self.new steps.new host.new) }
-    {
-        let operands = self.stacks.frame_operands();
-        let given = &operands[operands.len() - count..];
-        let arguments = Arguments::of(self.alloc, &self.cells, given)?;
-        let position = context.program.position(frame.address);
-        let sought = seek(self.alloc, host, name, arguments, position)?;
-        match self.call_native(host, steps, sought, position)? {
-            NativeEnd::Value(value) => {
-                self.stacks.cut(self.stacks.height() - count);
-                Ok(Performed::Leads(self.push_on(steps, frame, value, next)))
-            }
-            NativeEnd::Fault(fault) => Ok(Performed::Leads(self.raise(steps, fault))),
-            NativeEnd::Asks(asked) => Ok(self.wait(Waiting {
-                asked,
-                lent: Loan::Nothing,
-                rest: Rest::Push { count, next },
-            })),
-        }
-    }
-
-    /// What follows where no function has the name: the native, or the fault that an operand is a lent
-    /// cell.
-    #[cold]
-    #[inline(never)]
-    pub fn native_by_name<L: Ledger>(
-        &mut self,
-        context: Context<'_>,
-        host: &mut H,
-        steps: &mut Steps<L>,
-        frame: &mut Activation,
-        name: &Text,
-        count: usize,
-        next: usize,
-    ) -> Result<Performed, OutOfMemory>
-        requires inside { frame.old.base ≤ length self.old.scope }
-        requires operands { count ≤ length self.old.stacks.operands }
-        requires room { length self.old.stacks.operands - count < self.old.stacks.room }
-        requires ahead { frame.old.address < next }
-        ensures implements { ImplementsOrWaits (setup_of H.law context.entry)
-            (moment frame.old self.old steps.old host.old)
-            (λ m place w. call_function m None name.now count (frame_in frame.old self.old place)
-            next w) (next ∷ []) count 1 self.old.stacks.handlers result
-            (moment frame.new self.new steps.new host.new) }
-    {
-        if !self.are_readable(count) {
-            return Performed::of(self.data_race(context, steps, frame.address, ""));
-        }
-        self.native_on(context, host, steps, frame, name, count, next)
     }
 }

@@ -1,11 +1,11 @@
 //! The faults that instructions raise. They are made and raised apart from the instruction, so that
 //! an instruction that raises none pays nothing for it.
 
-ghost use Rattle.std.specs.Prelude.{◌≡◌, ◌<◌, ◌++◌, length, Ok, IfOk, IfSome};
+ghost use Rattle.std.specs.Prelude.{◌≡◌, ◌<◌, length, Ok, IfOk, IfSome};
 ghost use Rattle.grain_program.specs.View.{position_of, name_of};
 ghost use Rattle.grain_means.specs.Rules.{race_text, name_at};
 ghost use Rattle.grain_fault.specs.Positions.{at_position};
-ghost use Rattle.grain_fault.specs.Problems.{Problem, Plain, AssignmentToConstant, DataRace, DataTooLarge, Malformed, MismatchDataType, StackOverflow, Terminated, TooManyOperations, TooManyVariables, problem_of};
+ghost use Rattle.grain_fault.specs.Problems.{Plain, AssignmentToConstant, DataRace, DataTooLarge, Malformed, MismatchDataType, StackOverflow, Terminated, TooManyOperations, TooManyVariables, problem_of};
 ghost use Rattle.grain_ops.specs.Outcomes.{Outcome};
 ghost use Rattle.grain_ops.specs.Answers.{FailsSo};
 ghost use Rattle.grain_frame.specs.Abstraction.{Raises};

@@ -38,7 +38,7 @@ pub struct Run<H> {
     pub host: PhantomData<H>,
 }
 
-/// Where a frame stopped.
+/// Where a frame stopped. It means nothing before a frame of the run has stopped by a fault.
 #[derive(Clone, Copy, Debug, PartialEq, Eq)]
 pub struct Stopped {
     /// The address of the instruction.

@@ -1,6 +1,6 @@
 //! Instructions on the `this` of a frame.
 
-ghost use Rattle.std.specs.Prelude.{◌≡◌, ◌<◌, ◌≤◌, ◌∷◌, [], length, Ok};
+ghost use Rattle.std.specs.Prelude.{◌≡◌, ◌<◌, ◌∷◌, [], length, Ok};
 ghost use Rattle.std.specs.Option.{option_copied};
 ghost use Rattle.grain_fault.specs.Problems.{Plain, UnboundThis};
 ghost use Rattle.grain_program.specs.Indices.{InPools};

@@ -98,7 +98,7 @@ pub enum Resumed {
 }
 
 impl<H: Host> Run<H> {
-    // An instruction waits for a native.
+    // Puts an instruction that waits for a native into the run.
     #[cold]
     pub(crate) fn wait(&mut self, waiting: Waiting) -> Performed
         ensures waits { result ≡ Performed.Waits }

@@ -45,7 +45,7 @@ pub record IsWaiting {H : Type 0} (p : View) (f : Activation) (s : Run H) (w : W
   pub lends : Lends w.rest w.lent
   pub kept : IsKept s w.lent
 
--- an instruction waits for a native that the run has
+-- the run has an instruction that waits for a native
 abbrev pub Awaits : {H : Type 0} → View → Activation → Run H → Type 0
 Awaits p f s = (w : Waiting) × (s.waiting ≡ Some w) × IsWaiting p f s w
 

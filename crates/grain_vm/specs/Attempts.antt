@@ -17,8 +17,8 @@ use Rattle.grain_frame.specs.declared.activations.Activation.{Activation}
 use Rattle.grain_frame.specs.declared.runs.Run.{Run}
 use Rattle.grain_frame.specs.declared.runs.Progress.{Progress}
 use Rattle.grain_frame.specs.declared.runs.Progress.TheVariants as progress
-use Rattle.grain_vm.specs.declared.attempts.CallApart.{CallApart}
-use Rattle.grain_vm.specs.declared.attempts.CallApart.TheVariants as apart
+use Rattle.grain_vm.specs.declared.attempts.CallOnCopy.{CallOnCopy}
+use Rattle.grain_vm.specs.declared.attempts.CallOnCopy.TheVariants as apart
 use Rattle.grain_vm.specs.declared.attempts.Attempt.{Attempt}
 use Rattle.grain_vm.specs.declared.attempts.Attempt.TheVariants as attempt
 use Rattle.grain_vm.specs.declared.attempts.Branched.{Branched}
@@ -47,7 +47,7 @@ CallsNothing program f =
     (o : Op) (width : ℕ) → op_at program.code f.address ≡ Some (o, width) → IsNoCall o
 
 -- what is known of a call that is done on a copy of the frame
-abbrev pub StandsApart : {H : Type 0} → View → Activation → Run H → CallApart → Type 0
+abbrev pub StandsApart : {H : Type 0} → View → Activation → Run H → CallOnCopy → Type 0
 StandsApart program f s (apart.Pointer count next) =
     StandsAt program f s (op.CallFnPtr count) next
 StandsApart program f s (apart.Native name count next) =
@@ -70,7 +70,7 @@ JumpsFrom m f s n target r host b = Implements m (moment f s n host)
     s.stacks.handlers r b
 
 -- What is left to do of an instruction is a jump to this address: what the jump does from the moment that
--- was reached is what the instruction does.
+-- was reached is what the instruction does. There the scope is no shorter than the frame's base.
 pub record IsButJump {H : Type 0} (m : Setup H) (f : Activation) (s : Run H) (n : StepsView)
     (f' : Activation) (s' : Run H) (n' : StepsView) (target : ℕ) : Type 0 where
   pub inside : f'.base ≤ length s'.scope

@@ -1,14 +1,13 @@
 //! Instructions that the loop does not do itself: calls of pointers and of names that no function has,
 //! plain instructions, and apart from them those that walk along a place or may wait for a native.
 
-ghost use Rattle.std.specs.Prelude.{◌≡◌};
 ghost use Rattle.grain_frame.specs.Abstraction.{Runs, StandsAt, Stepped, setup_of, moment};
 ghost use Rattle.grain_vm.specs.Attempts.{CallsNothing, StandsApart};
 ghost use Rattle.grain_vm.specs.Methods.{NoneAbove};
 ghost use Rattle.grain_program.specs.declared.code.instruction_set.Op.TheVariants as op;
 
 use crate::asks::{call_native, wait_for_native};
-use crate::attempts::CallApart;
+use crate::attempts::CallOnCopy;
 use crate::finding::{Found, find_pointed};
 use crate::method_runs::{call_apart, call_with, walk_chain};
 use crate::stepping::{Turn, step, step_plain};
@@ -27,7 +26,7 @@ pub(crate) fn pointer_or_native<H: Host, L: Ledger>(
     host: &mut H,
     steps: &mut Steps<L>,
     frame: &mut Activation,
-    apart: CallApart,
+    apart: CallOnCopy,
 ) -> Result<Progress, OutOfMemory>
     requires runs { Runs context.program.now frame.old run.old }
     requires none { NoneAbove run.old.level run.old.receivers }
@@ -37,10 +36,10 @@ pub(crate) fn pointer_or_native<H: Host, L: Ledger>(
         (moment frame.new run.new steps.new host.new) }
 {
     match apart {
-        CallApart::Pointer { count, next } => {
+        CallOnCopy::Pointer { count, next } => {
             call_pointer(run, context, host, steps, frame, count, next)
         }
-        CallApart::Native { name, count, next } => {
+        CallOnCopy::Native { name, count, next } => {
             call_native(run, context, host, steps, frame, name, count, next)
         }
     }

@@ -54,7 +54,7 @@ pub enum Branched {
 
 /// A call that is done on a copy of the frame.
 #[derive(Clone, Copy, Debug, PartialEq, Eq)]
-pub enum CallApart {
+pub enum CallOnCopy {
     /// A call of the pointer under the last `count` operands; afterwards the frame goes on at
     /// the address `next`.
     Pointer { count: u8, next: usize },

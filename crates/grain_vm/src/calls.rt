@@ -163,9 +163,9 @@ fn bind<H: Host>(
     )
 }
 
-// Raises in the caller's frame, which stands at this address, the fault that left the body of a function. One that cannot be
-// caught gets the position of the call; any other is wrapped in `ErrorInFunctionCall`, which
-// names the function.
+// Raises in the caller's frame, which stands at this address, the fault that left the body of a
+// function. One that cannot be caught gets the position of the call; any other is wrapped in
+// `ErrorInFunctionCall`, which names the function.
 #[cold]
 #[inline(never)]
 fn propagate<H: Host, L: Ledger>(

@@ -32,7 +32,8 @@ fn throws_unit(fault: &EvalAltResult) -> bool
 
 // Offers the fault by which a frame stopped to the frame's handlers. It says whether one caught it: then
 // the frame goes on at `address`, which is set to the handler's target, with `floor`, which is set to the
-// floor that it had where it stopped. Else the fault has left the frame.
+// floor that it had where it stopped. Else the fault has left the frame. Where memory is out, the frame has
+// been left too.
 #[inline(always)]
 pub(crate) fn offer<H: Host, L: Ledger>(
     run: &mut Run<H>,

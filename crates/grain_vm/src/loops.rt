@@ -13,7 +13,7 @@ ghost use Rattle.grain_vm.specs.Methods.{NoneAbove};
 ghost use Rattle.grain_program.specs.Indices.{IsNamed};
 
 use crate::apart::{pointer_or_native, step_or_walk};
-use crate::attempts::{Attempt, CallApart, Pending, quick};
+use crate::attempts::{Attempt, CallOnCopy, Pending, quick};
 use crate::calls::{FrameEnd, enter_function, leave_by_fault, resume_caller};
 use crate::catching::offer;
 use grain_frame::{Activation, Context, Progress, Run};
@@ -106,10 +106,10 @@ fn proceed<H: Host, L: Ledger>(
                     let function = context.program.function_at(number);
                     return call(run, context, host, steps, frame, function, next);
                 }
-                None => CallApart::Native { name, count, next },
+                None => CallOnCopy::Native { name, count, next },
             }
         }
-        Pending::Pointer { count, next } => CallApart::Pointer { count, next },
+        Pending::Pointer { count, next } => CallOnCopy::Pointer { count, next },
         Pending::Other => return step_on_copy(run, context, host, steps, frame),
     };
     call_on_copy(run, context, host, steps, frame, apart)
@@ -125,7 +125,7 @@ fn call_on_copy<H: Host, L: Ledger>(
     host: &mut H,
     steps: &mut Steps<L>,
     frame: &mut Activation,
-    apart: CallApart,
+    apart: CallOnCopy,
 ) -> Result<Progress, OutOfMemory>
     requires runs { Runs context.program.now frame.old run.old }
     requires none { NoneAbove run.old.level run.old.receivers }

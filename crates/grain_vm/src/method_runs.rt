@@ -2,7 +2,7 @@
 //! receiver. Each such function runs in a frame of its own.
 
 ghost use Rattle.std.specs.Prelude.{◌≡◌, ◌<◌, ◌≤◌, ◌+◌, ◌-◌, ◌∷◌, [], length, slice_get, Some};
-ghost use Rattle.grain_frame.specs.Abstraction.{abstraction, continuation, frame_in, is_out, ContinuesAt, KeepsFrame, PerformsBound, Ready, ReadyIn, Runs, Stepped, setup_of, moment};
+ghost use Rattle.grain_frame.specs.Abstraction.{abstraction, continuation, frame_in, is_out, ContinuesAt, KeepsFrame, PerformsBound, Ready, ReadyIn, setup_of, moment};
 ghost use Rattle.grain_vm.specs.Asks.{TookOne};
 ghost use Rattle.grain_program.specs.declared.code.functions.Function.{Function};
 ghost use Rattle.grain_program.specs.TypedAt.{IsTypedAt};

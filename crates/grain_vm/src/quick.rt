@@ -324,8 +324,8 @@ pub(crate) fn quick_pop<H: Host, L: Ledger>(
     true
 }
 
-// `jump_if_false` and `jump_if_true` on a truth value. It is taken; if it is the wanted one, the jump is
-// left to do.
+// `jump_if_false` and `jump_if_true` on a truth value, which is taken off the operands. If it is the wanted
+// one, the jump is left to do.
 #[inline(always)]
 pub(crate) fn quick_jump_if<H: Host, L: Ledger>(
     run: &mut Run<H>,

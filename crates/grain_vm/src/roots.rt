@@ -1,8 +1,7 @@
 //! Roots of chains: what a root holds, where it is held, and how it is lent to a walk.
 
-ghost use Rattle.std.specs.Prelude.{◌≡◌, ◌<◌, ◌≤◌, length, slice_set, true};
+ghost use Rattle.std.specs.Prelude.{◌≡◌, ◌<◌, ◌≤◌, length, true};
 ghost use Rattle.std.specs.Option.{option_copied};
-ghost use Rattle.grain_value.specs.Cells.{idle};
 ghost use Rattle.grain_program.specs.Chains.{assigns};
 ghost use Rattle.grain_program.specs.Indices.{IsIndexed, IsRootIndexed};
 ghost use Rattle.grain_means.specs.Rules.Chains.{asks_root, assigned_operand, root_operands};
@@ -14,7 +13,7 @@ use grain_frame::{Activation, Context, Progress, Run, put_in_cell};
 use grain_global::Steps;
 use grain_host::Host;
 use grain_program::{Chain, Program, Root, Step, Tail};
-use grain_value::{Held, OutOfMemory, Store, Text};
+use grain_value::{Held, OutOfMemory, Text};
 use std::mem;
 use std::sync::ledger::Ledger;
 

@@ -1,4 +1,4 @@
-//! One instruction of a frame that is neither `call` nor `call_fn_ptr`.
+//! How an instruction is read, and one of a frame done that is neither `call` nor `call_fn_ptr`.
 
 ghost use Rattle.std.specs.Prelude.{◌≡◌, ◌≤◌, ◌+◌, ℕ, List, length, Some};
 ghost use Rattle.grain_program.specs.Decoding.{op_at};
@@ -6,12 +6,12 @@ ghost use Rattle.grain_program.specs.Indices.{InPools};
 ghost use Rattle.grain_program.specs.Layout.{most_code};
 ghost use Rattle.grain_program.specs.Shapes.{TryHandler};
 ghost use Rattle.grain_program.specs.TypedAt.{IsTypedAt, Provides, Verified};
-ghost use Rattle.grain_frame.specs.Abstraction.{Runs, Stepped, setup_of, moment};
+ghost use Rattle.grain_frame.specs.Abstraction.{Runs, setup_of, moment};
 ghost use Rattle.grain_vm.specs.Attempts.{CallsNothing};
 ghost use Rattle.grain_vm.specs.Finding.{StepsHere, StepsIfPlain, is_plain, turn_of};
 
 use crate::receivers::Destination;
-use grain_frame::{Activation, Context, Performed, Progress, Run, Waiting};
+use grain_frame::{Activation, Context, Performed, Progress, Run};
 use grain_global::Steps;
 use grain_host::Host;
 use grain_program::{Chunk, Op};
@@ -23,7 +23,7 @@ use std::sync::ledger::Ledger;
 pub enum Turn {
     /// It is done.
     Done(Progress),
-    /// It waits for a native.
+    /// It waits for a native, and lies in the run.
     Waits,
     /// It walks the chain with this index; afterwards the frame goes on at the address `next`.
     Chain {

@@ -7,7 +7,7 @@ use Rattle.grain_frame.specs.declared.waiting.Performed.TheVariants as performed
 use Rattle.grain_frame.specs.lemmas.Bound.{arm_bound, as_bound}
 use Rattle.grain_vm.proofs.Found.{found_stepped, function_found_so, is_done, is_function, pointer_found, stepped_on_copy, finds_of, call_refused, none_numbered, pointed_done, pointed_found}
 use Rattle.grain_vm.specs.Attempts.{IsPending, StandsApart}
-use Rattle.grain_vm.specs.declared.attempts.CallApart.{CallApart}
+use Rattle.grain_vm.specs.declared.attempts.CallOnCopy.{CallOnCopy}
 use Rattle.grain_vm.specs.declared.attempts.Pending.{Pending}
 use Rattle.grain_vm.proofs.Plain.{stepped_from}
 use Rattle.grain_vm.proofs.Calling.{call_ran, has_begun, not_begun, entered_with, kept_with, refused_here, refused_this, there_is, outer_is}
@@ -150,7 +150,7 @@ loops::step_on_copy-returns g t c =
 
 pub apart::pointer_or_native-returns-in-Native : goal.apart::pointer_or_native-returns-in-Native
 apart::pointer_or_native-returns-in-Native g t c =
-    let at = subst (λ (q : CallApart). StandsApart c.args.context.program.now c.args.frame.now
+    let at = subst (λ (q : CallOnCopy). StandsApart c.args.context.program.now c.args.frame.now
     c.args.run.now q) c.in-Native.is c.requires.stands in
     record { stepped = arm_bound refl refl refl at.0 c.requires.runs c.call_native.ensures.performs }
 
