@@ -26,3 +26,8 @@ mod Advancing
 mod Totalled
 mod Gathering
 mod Appending
+mod Branching
+mod Loading
+mod Paired
+mod Pairs
+mod Tried

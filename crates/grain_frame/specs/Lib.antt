@@ -14,6 +14,8 @@ pub mod Refusals
 pub mod Pointers
 pub mod Literals
 pub mod Showing
+pub mod Attempts
+pub mod Following
 pub mod lemmas
 pub use Rattle.grain_global.specs.StepsView
 pub use Rattle.grain_means.specs.Means

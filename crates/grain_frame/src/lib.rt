@@ -1,15 +1,19 @@
-//! A frame's run: what a run has, what charges, raises and asks the host, and one method for each
-//! instruction that calls no function.
+//! A frame's run: what a run has, what charges, raises and asks the host, one method for each
+//! instruction that calls no function, and the forms that the loop tries first (`quick`).
 #![tactic(auto)]
 
 mod activations;
 mod assignments;
+mod attempts;
+mod branches;
 mod charges;
 mod contexts;
+mod fetching;
 mod handlers;
 mod interpolation;
 mod literal_sizes;
 mod literals;
+mod loaded;
 mod locals;
 mod loops;
 mod native_assignments;
@@ -19,6 +23,7 @@ mod operand_natives;
 mod operands;
 mod operated;
 mod pointers;
+mod quick_forms;
 mod raising;
 mod receivers;
 mod runs;
@@ -27,15 +32,16 @@ mod stepping;
 mod targets;
 mod this;
 mod transfers;
+mod two_loads;
 mod waiting;
 
 pub use activations::Activation;
+pub use attempts::{Attempt, Pending, quick};
 pub use contexts::Context;
+pub use fetching::fetch;
 pub use native_calls::{Arguments, Asked, NativeEnd, Sought, served};
-pub use operated::{quick_assigned, quick_assigned_with};
 pub use pointers::Under;
 pub use receivers::Receivers;
 pub use runs::{Progress, Run, Stopped};
 pub use saved::SavedScopes;
-pub use transfers::agrees;
 pub use waiting::{Loan, Performed, Rest, Resumed, Waiting, put_in_cell};

@@ -71,7 +71,7 @@ pub fn assign_entry(
 /// The integer that an op-assignment makes of a target and a value that are integers, if operators
 /// are fast and it fits. It says nothing of all else, of which `assign` tells.
 #[inline(always)]
-pub fn quick_assigned(
+pub(crate) fn quick_assigned(
     engine: &Engine,
     token: Token,
     target: &Dynamic,
@@ -91,7 +91,7 @@ pub fn quick_assigned(
 
 /// The same of a target and an integer.
 #[inline(always)]
-pub fn quick_assigned_with(
+pub(crate) fn quick_assigned_with(
     engine: &Engine,
     token: Token,
     target: &Dynamic,

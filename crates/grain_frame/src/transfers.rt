@@ -200,7 +200,7 @@ impl<H: Host> Run<H> {
 
 /// Whether a truth value is the one that is wanted.
 #[inline(always)]
-pub fn agrees(wanted: bool, truth: bool) -> bool
+pub(crate) fn agrees(wanted: bool, truth: bool) -> bool
     ensures { result ≡ agrees wanted truth }
 {
     wanted == truth

@@ -28,7 +28,7 @@ use Rattle.grain_vm.specs.declared.driving.WalkEnd.{WalkEnd}
 use Rattle.grain_vm.specs.declared.roots.Home.{Home}
 use Rattle.grain_vm.specs.declared.roots.Home.TheVariants as home
 use Rattle.grain_vm.proofs.Finishing.{finished}
-use Rattle.grain_vm.proofs.Turns.{kept_bound}
+use Rattle.grain_frame.specs.lemmas.Turns.{kept_bound}
 
 -- ---- the newest `this` was written
 

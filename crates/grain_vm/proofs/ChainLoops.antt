@@ -40,7 +40,7 @@ use Rattle.grain_vm.specs.declared.driving.WalkEnd.{WalkEnd}
 use Rattle.grain_vm.specs.declared.roots.Home.{Home}
 use Rattle.grain_vm.specs.declared.roots.Home.TheVariants as home
 use Rattle.grain_vm.proofs.ChainEnds.{lands_whole, newest_kept, newest_there, none_newest}
-use Rattle.grain_vm.proofs.Turns.{kept_bound}
+use Rattle.grain_frame.specs.lemmas.Turns.{kept_bound}
 
 -- what holds of the chain at each turn of the loop, against where it began
 pub record WalkedTo {H : Type 0} (m : Setup H) (a : Moment H) (k next : ℕ) (w : Walking)

@@ -1,13 +1,8 @@
 mod Measure
 mod Turns
-mod Tried
 mod Mains
-mod Branching
-mod Loading
 mod Evaluated
 mod Headline
-mod Paired
-mod Pairs
 mod Calling
 mod Entering
 mod Found

@@ -40,7 +40,8 @@ use Rattle.grain_vm.specs.Finding.{Finds}
 use Rattle.grain_vm.specs.Methods.{NoneAbove}
 use Rattle.grain_vm.specs.declared.finding.Found.{Found}
 use Rattle.grain_vm.proofs.Awaiting.{of_some, waits_at}
-use Rattle.grain_vm.proofs.Turns.{kept_bound, none_on}
+use Rattle.grain_frame.specs.lemmas.Turns.{kept_bound}
+use Rattle.grain_vm.proofs.Turns.{none_on}
 
 -- ---- an instruction that waits, and then goes on
 

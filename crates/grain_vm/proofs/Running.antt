@@ -12,14 +12,15 @@ use Rattle.grain_frame.specs.declared.activations.Activation.{Activation}
 use Rattle.grain_frame.specs.declared.runs.Progress.{Progress}
 use Rattle.grain_frame.specs.declared.runs.Progress.TheVariants as progress
 use Rattle.grain_frame.specs.declared.runs.Run.{Run}
-use Rattle.grain_vm.specs.Attempts.{Unchanged}
+use Rattle.grain_frame.specs.Attempts.{Unchanged}
 use Rattle.grain_vm.specs.Calls.{LeavesAround}
 use Rattle.grain_vm.specs.Catching.{stopped_frame, KeepsRun, StopsSo, stop_continuation, Caught, CaughtAt, GoesOnWith, activation_at, caught_at, caught_or_left}
 use Rattle.grain_vm.specs.Methods.{NoneAbove}
 use Rattle.grain_vm.specs.declared.loops.Stop.TheVariants as stop
 use Rattle.grain_vm.proofs.CaughtFrames.{stopped_at, caught_runs, offered_so, stopped_so}
 use Rattle.grain_vm.proofs.Measure.{falls, left, taken}
-use Rattle.grain_vm.proofs.Turns.{kept_bound, left_out, moved_back, next_runs, none_on, turn}
+use Rattle.grain_frame.specs.lemmas.Turns.{kept_bound, turn}
+use Rattle.grain_vm.proofs.Turns.{left_out, moved_back, next_runs, none_on}
 use Rattle.grain_program.specs.declared.code.parts.Chunk.{Chunk}
 use Rattle.grain_means.specs.Rules.{offered}
 use Rattle.grain_vm.specs.declared.loops.Stop.{Stop}

@@ -26,7 +26,7 @@ use Rattle.grain_frame.specs.declared.waiting.Rest.{Rest}
 use Rattle.grain_frame.specs.declared.waiting.Rest.TheVariants as rest
 use Rattle.grain_frame.specs.lemmas.Resting.{kept_there}
 use Rattle.grain_vm.specs.Asks.{NativeOver, ScopeOver, ThisOver}
-use Rattle.grain_vm.proofs.Turns.{kept_bound}
+use Rattle.grain_frame.specs.lemmas.Turns.{kept_bound}
 
 -- ---- what stays the same where a native was called until it was over
 

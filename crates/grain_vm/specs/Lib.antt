@@ -4,8 +4,6 @@
 pub mod VmView
 pub mod MachineView
 pub mod Machines
-pub mod Attempts
-pub mod Following
 pub mod Finding
 pub mod Calls
 pub mod Catching
@@ -19,6 +17,7 @@ pub mod Asks
 pub mod Backs
 pub mod WalkNatives
 pub mod OnReceivers
+pub mod Apart
 pub use Rattle.grain_global.specs.StepsView
 pub use Rattle.grain_means.specs.Worlds
 pub use Rattle.grain_means.specs.Rules

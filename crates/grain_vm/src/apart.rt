@@ -2,12 +2,12 @@
 //! plain instructions, and apart from them those that walk along a place or may wait for a native.
 
 ghost use Rattle.grain_frame.specs.Abstraction.{Runs, StandsAt, Stepped, setup_of, moment};
-ghost use Rattle.grain_vm.specs.Attempts.{CallsNothing, StandsApart};
+ghost use Rattle.grain_frame.specs.Attempts.{CallsNothing};
+ghost use Rattle.grain_vm.specs.Apart.{StandsApart};
 ghost use Rattle.grain_vm.specs.Methods.{NoneAbove};
 ghost use Rattle.grain_program.specs.declared.code.instruction_set.Op.TheVariants as op;
 
 use crate::asks::{call_native, wait_for_native};
-use crate::attempts::CallOnCopy;
 use crate::finding::{Found, find_pointed};
 use crate::method_runs::{call_apart, call_with, walk_chain};
 use crate::stepping::{Turn, step, step_plain};
@@ -16,6 +16,17 @@ use grain_global::Steps;
 use grain_host::Host;
 use grain_value::OutOfMemory;
 use std::sync::ledger::Ledger;
+
+/// A call that is done on a copy of the frame.
+#[derive(Clone, Copy, Debug, PartialEq, Eq)]
+pub enum CallOnCopy {
+    /// A call of the pointer under the last `count` operands; afterwards the frame goes on at
+    /// the address `next`.
+    Pointer { count: u8, next: usize },
+    /// A call of the name that has this index, with this number of arguments, which no function has;
+    /// afterwards the frame goes on at the address `next`.
+    Native { name: u16, count: u8, next: usize },
+}
 
 // Does a call apart from the loop: of a pointer, or of a name that no function has.
 #[cycle(run)]

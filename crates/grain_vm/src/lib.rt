@@ -5,8 +5,6 @@
 mod apart;
 mod arguments;
 mod asks;
-mod attempts;
-mod branches;
 mod calls;
 mod calls_back;
 mod catching;
@@ -15,19 +13,16 @@ mod chains;
 mod curried;
 mod driving;
 mod finding;
-mod loaded;
 mod loops;
 mod machines;
 mod main_runs;
 mod method_runs;
 mod methods;
 mod natives;
-mod quick;
 mod receiver_ends;
 mod receivers;
 mod roots;
 mod stepping;
-mod two_loads;
 mod vms;
 mod walk_natives;
 

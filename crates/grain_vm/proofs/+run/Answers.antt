@@ -6,9 +6,10 @@ use Rattle.grain_vm.specs.Methods.{NoneAbove, given_to}
 use Rattle.grain_frame.specs.declared.waiting.Performed.TheVariants as performed
 use Rattle.grain_frame.specs.lemmas.Bound.{arm_bound, as_bound}
 use Rattle.grain_vm.proofs.Found.{found_stepped, function_found_so, is_done, is_function, pointer_found, stepped_on_copy, finds_of, call_refused, none_numbered, pointed_done, pointed_found}
-use Rattle.grain_vm.specs.Attempts.{IsPending, StandsApart}
-use Rattle.grain_vm.specs.declared.attempts.CallOnCopy.{CallOnCopy}
-use Rattle.grain_vm.specs.declared.attempts.Pending.{Pending}
+use Rattle.grain_frame.specs.Attempts.{IsPending}
+use Rattle.grain_vm.specs.Apart.{StandsApart}
+use Rattle.grain_vm.specs.declared.apart.CallOnCopy.{CallOnCopy}
+use Rattle.grain_frame.specs.declared.attempts.Pending.{Pending}
 use Rattle.grain_vm.proofs.Plain.{stepped_from}
 use Rattle.grain_vm.proofs.Calling.{call_ran, has_begun, not_begun, entered_with, kept_with, refused_here, refused_this, there_is, outer_is}
 use Rattle.grain_vm.proofs.ChainAhead.{chain_stepped}

@@ -46,7 +46,7 @@ not_callable-requires-clause-described g c =
     let read = all_there (flat_all s.cells (arguments count s.stacks.operands)) readable in (
       read.0,
       c.in_ok-arguments.ensures read.0 (last_read s.cells count s.stacks.operands
-      c.frame_operands-operands.result.now read.0 c.frame_operands-operands.ensures read.1),
+          c.frame_operands-operands.result.now read.0 c.frame_operands-operands.ensures read.1),
     )
 
 pub returns-in_default : goal.returns-in_default
