@@ -2,7 +2,7 @@
 # programs.sh before it, and has a function `say` that writes a line to standard error.
 
 # what is said before a build from nothing
-FIRST_BUILD_TIME='this takes about 70 minutes on four processors'
+FIRST_BUILD_TIME='this takes 35 to 70 minutes on four processors'
 
 log=$top/crates/grain_run/out/build.log
 # its time is that of the build's beginning
