@@ -12,7 +12,7 @@ ghost use Rattle.grain_chain.specs.Going.{Goes, Needs, rest, Asked, AskedFor, Is
 ghost use Rattle.grain_chain.specs.declared.contexts.Context.{Context as AnyContext};
 ghost use Rattle.grain_chain.specs.declared.requests.WalkAnswer.TheVariants as answer;
 
-use crate::contexts::name_at;
+use crate::contexts::name_of_program;
 use crate::origins::Awaited;
 use crate::requests::{Request, WalkAnswer, What};
 use crate::walks::Walk;
@@ -191,6 +191,6 @@ pub(crate) fn flat_copy(
 pub(crate) fn name_text(alloc: Global, program: &Program, name: u32) -> Result<Dynamic, OutOfMemory>
     ensures { IfOk result (λ value. value ≡ dynamic.Text (name_of program.now name)) }
 {
-    let name = Text::copy_of(alloc, name_at(program, name))?;
+    let name = name_of_program(alloc, program, name)?;
     Ok(Dynamic::Text(name))
 }

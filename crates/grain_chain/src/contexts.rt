@@ -1,6 +1,6 @@
 //! What a walk only reads: the engine, the program and the cells.
 
-ghost use Rattle.std.specs.Prelude.{◌≡◌, ◌<◌, Some, slice_get};
+ghost use Rattle.std.specs.Prelude.{◌≡◌, ◌<◌, IfOk, Some, slice_get};
 ghost use Rattle.grain_program.specs.Chains.{HasOperands};
 ghost use Rattle.grain_program.specs.View.{name_of, chain_of};
 ghost use Rattle.grain_chain.specs.Walking.{steps_of, count_of, ending_in, HasOperator};
@@ -8,7 +8,8 @@ ghost use Rattle.grain_chain.specs.Walking.{steps_of, count_of, ending_in, HasOp
 use crate::origins::Ending;
 use grain_global::Engine;
 use grain_program::{Program, Step, Tail};
-use grain_value::Store;
+use grain_value::{OutOfMemory, Store, Text};
+use std::alloc::Global;
 
 /// What a walk only reads: the engine, the program and the cells.
 #[derive(Clone, Copy)]
@@ -25,6 +26,20 @@ pub(crate) fn name_at(program: &Program, index: u32) -> &str
     match program.names().get(index as usize) {
         Some(name) => name.as_str(),
         None => "",
+    }
+}
+
+/// The name with this index, which the text shares with the program; empty if there is none.
+pub(crate) fn name_of_program(
+    alloc: Global,
+    program: &Program,
+    index: u32,
+) -> Result<Text, OutOfMemory>
+    ensures { IfOk result (λ text. text ≡ name_of program.now index) }
+{
+    match program.names().get(index as usize) {
+        Some(name) => name.as_text().copy(alloc),
+        None => Ok(Text::new(alloc)),
     }
 }
 

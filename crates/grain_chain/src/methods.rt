@@ -16,13 +16,13 @@ ghost use Rattle.grain_chain.specs.Going.{Takes, Goes, Needs, NeedsOr, rest, len
 ghost use Rattle.grain_chain.specs.MethodSteps.{HasArguments, kind_named, operands_of, typed_method, called_method, step_arguments, method_task, gave_task, own_task, asking_task};
 ghost use Rattle.grain_chain.specs.declared.contexts.Context.{Context as AnyContext};
 
-use crate::contexts::{Context, name_at};
+use crate::contexts::{Context, name_at, name_of_program};
 use crate::origins::{AnswerUse, Awaited, Onward, Origin};
 use crate::requests::{WalkAnswer, What};
 use crate::steps::stopping;
 use crate::walks::Walk;
 use grain_fault::Position;
-use grain_value::{Array, Dynamic, FnPtr, Held, OutOfMemory, Text};
+use grain_value::{Array, Dynamic, FnPtr, Held, OutOfMemory};
 use std::alloc::Global;
 
 /// What a method step does, by its name and the number of its arguments.
@@ -257,7 +257,7 @@ fn typed_method(
         .method(step.name, usize::from(step.argc), kind.as_str())
     {
         Some(number) => Ok(What::Compiled(number)),
-        None => Ok(What::Native(Text::copy_of(alloc, name_at(context.program, step.name))?)),
+        None => Ok(What::Native(name_of_program(alloc, context.program, step.name)?)),
     }
 }
 

@@ -11,13 +11,13 @@ ghost use Rattle.grain_chain.specs.Walking.{place_of, role_in, gone_into, AtStep
 ghost use Rattle.grain_chain.specs.Going.{Goes, Takes, Needs, NeedsOr, setting, rest, next_step};
 
 use crate::asking::{name_text, one_argument, two_arguments};
-use crate::contexts::{Context, name_at};
+use crate::contexts::{Context, name_at, name_of_program};
 use crate::origins::{AnswerUse, Awaited, Onward, Origin, Role};
 use crate::requests::WalkAnswer;
 use crate::steps::stopping;
 use crate::walks::Walk;
 use grain_fault::{EvalAltResult, Position};
-use grain_value::{Array, Dynamic, OutOfMemory, PathStep, Text};
+use grain_value::{Array, Dynamic, OutOfMemory, PathStep};
 use std::mem;
 
 impl Walk {
@@ -66,7 +66,7 @@ impl Walk {
             (rest context.entry self.old))) result self.new }
         ensures needs { (n : ℕ) → NeedsOr context.entry.program.now self.new result n }
     {
-        let key = Text::copy_of(self.alloc, name_at(context.program, name))?;
+        let key = name_of_program(self.alloc, context.program, name)?;
         self.pass_mark()?;
         if is_there {
             self.deeper(PathStep::Key(key))?;

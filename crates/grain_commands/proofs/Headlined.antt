@@ -1,5 +1,5 @@
 -- What is said of each status gives the headline.
-use Rattle.std.proofs.Common.{◌≡◌, ◌≤◌, ◌++◌, ◌∙◌, ℕ, zero, suc, Bool, true, List, Option, Some, Ok, Err, IfSome, sym, ap, subst, refl, arith}
+use Rattle.std.proofs.Common.{◌≡◌, ◌≤◌, ◌++◌, ◌∙◌, ℕ, zero, suc, Bool, true, List, Option, Some, Err, IfSome, sym, ap, subst, refl, arith}
 use Rattle.grain_host.specs.Tables.{table_law}
 use Rattle.grain_host.specs.declared.tables.TableHost.{TableHost}
 use Rattle.grain_program.specs.Typing.{IsProgram}

@@ -165,7 +165,7 @@ found_one (Some n) read_only key is =
       decided true none = absurd cc
       decided false same = (refl, cc)
 
--- it is a native that the host has for these arguments
+-- a key that may be called is that of a native which the host has for these arguments
 pub may_be_called : {H : Type 0} (law : Law H) (host : H) (name : List ℕ) (args : List Held)
     (a : Arguments) (q : Position) (key : ℕ) → Describes a args →
     callable law host name a.kinds a.read_only ≡ Some key →

@@ -3,7 +3,7 @@ use Rattle.std.proofs.Common.{◌≡◌, ◌+◌, ℕ, List, Option, Some, None,
 use Rattle.std.proofs.lemmas.Bool.{eqb-false}
 use Rattle.grain_fault.specs.Problems.{NoMemory}
 use Rattle.grain_host.specs.Law.{Outcome, Reply}
-use Rattle.grain_means.specs.Worlds.{Act, Callback, End, Receiver, Setup, World}
+use Rattle.grain_means.specs.Worlds.{Callback, End, Receiver, Setup, World}
 use Rattle.grain_means.specs.Worlds as worlds
 use Rattle.grain_means.specs.Rules.{cells_with, is_stop, lent_held, receiver_rewritten, roots_with, scope_with, told, trace_kept, went_on, with_token, without_token}
 

@@ -22,7 +22,7 @@ use Rattle.grain_stack.specs.Cursors.{items_left}
 use Rattle.grain_stack.specs.declared.cursors.Cursor.{Cursor}
 use Rattle.grain_stack.specs.declared.handlers.Handler.{Handler}
 use Rattle.grain_stack.specs.declared.totals.Total.{Total}
-use Rattle.grain_means.specs.Worlds.{Act, Go, End, Then, Answer, Came, Failed, Frame, InFrame, InHost, Place, Receiver, Setup, World}
+use Rattle.grain_means.specs.Worlds.{Act, Go, End, Then, Came, Failed, Frame, InFrame, InHost, Place, Receiver, Setup, World}
 use Rattle.grain_means.specs.Worlds as worlds
 use Rattle.grain_means.specs.Rules.{cells_lent, leave_by_fault, native_over, offered, instr, or_return, with_token}
 use Rattle.grain_means.specs.Simulation.{LocalState, Computation, Simulates, SimulatesExactly}

@@ -49,7 +49,8 @@ abbrev pub callable_key : Bool → Option Native → Option ℕ
 callable_key read_only None = None
 callable_key read_only (Some n) = if n.writes && read_only then None else Some n.key
 
--- the key of the native of a name that may be called with arguments of these kinds, if there is one
+-- the key of the native of a name that may be called with arguments of these kinds, if there is one; the
+-- flag says whether the first of them can only be read
 abbrev pub callable : {S : Type 0} → Law S → S → List ℕ → List ℕ → Bool → Option ℕ
 callable law s name kinds read_only = callable_key read_only (native_of law s name kinds)
 

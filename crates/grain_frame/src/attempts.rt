@@ -33,8 +33,8 @@ pub enum Attempt {
 /// An instruction that is still to be done.
 #[derive(Clone, Copy, Debug, PartialEq, Eq)]
 pub enum Pending {
-    /// A call of the function whose name has this index, with this number of arguments; afterwards
-    /// the frame goes on at the address `next`.
+    /// A call of the name that has this index, with this number of arguments; afterwards the frame
+    /// goes on at the address `next`.
     Call { name: u16, count: u8, next: usize },
     /// A call of the pointer under the last `count` operands; afterwards the frame goes on at
     /// the address `next`.

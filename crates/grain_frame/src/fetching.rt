@@ -1,4 +1,4 @@
-//! How the instruction is read at which a frame stands.
+//! How an instruction of a frame is read.
 
 ghost use Rattle.std.specs.Prelude.{◌≡◌, ◌≤◌, ◌+◌, ℕ, List, length, Some};
 ghost use Rattle.grain_program.specs.Decoding.{op_at};

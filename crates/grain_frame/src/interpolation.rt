@@ -26,7 +26,7 @@ use crate::waiting::{Loan, Performed, Rest, Waiting};
 use grain_fault::{EvalAltResult, MalformedKind, Position};
 use grain_global::Steps;
 use grain_host::Host;
-use grain_value::{Dynamic, OutOfMemory, Text};
+use grain_value::{Array, Dynamic, OutOfMemory, Text};
 use std::alloc::Global;
 use std::sync::ledger::Ledger;
 
@@ -129,7 +129,8 @@ impl<H: Host> Run<H> {
     {
         let operands = self.stacks.frame_operands();
         let given = &operands[operands.len() - 1..];
-        let arguments = Arguments::of(self.alloc, &self.cells, given)?;
+        let no_room = Array::new(self.alloc);
+        let arguments = Arguments::of(self.alloc, no_room, &self.cells, given)?;
         if host.resolve("to_string", &arguments.kinds).is_none() {
             return Ok(None);
         }

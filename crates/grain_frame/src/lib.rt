@@ -3,6 +3,7 @@
 #![tactic(auto)]
 
 mod activations;
+mod argument_room;
 mod assignments;
 mod attempts;
 mod branches;
@@ -36,6 +37,7 @@ mod two_loads;
 mod waiting;
 
 pub use activations::Activation;
+pub use argument_room::ArgumentRoom;
 pub use attempts::{Attempt, Pending, quick};
 pub use contexts::Context;
 pub use fetching::fetch;

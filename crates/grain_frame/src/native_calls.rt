@@ -64,9 +64,17 @@ impl Arguments {
     pub fn new(alloc: Global) -> Arguments
         ensures { Describes result [] }
     {
+        Arguments::with(alloc, Array::new(alloc))
+    }
+
+    /// No arguments, whose values are to be put into this list, which has none.
+    pub fn with(alloc: Global, values: Array) -> Arguments
+        requires { values ≡ [] }
+        ensures { Describes result [] }
+    {
         Arguments {
             kinds: Kinds::new(alloc),
-            values: Array::new(alloc),
+            values,
             read_only: false,
         }
     }
@@ -89,13 +97,20 @@ impl Arguments {
         self.values.push(value.copy(alloc)?)
     }
 
-    /// These arguments, as they are read. None of them is a cell that is lent.
-    pub fn of(alloc: Global, cells: &Store, held: &[Held]) -> Result<Arguments, OutOfMemory>
+    /// These arguments, as they are read. None of them is a cell that is lent. Their values are put into
+    /// this list, which has none.
+    pub fn of(
+        alloc: Global,
+        values: Array,
+        cells: &Store,
+        held: &[Held],
+    ) -> Result<Arguments, OutOfMemory>
+        requires empty { values ≡ [] }
         requires readable { is_some (flat_all cells.now held.now) ≡ true }
         ensures { (args : List Held) → flat_all cells.now held.now ≡ Some args →
             IfOk result (λ a. Describes a args) }
     {
-        let mut arguments = Arguments::new(alloc);
+        let mut arguments = Arguments::with(alloc, values);
         'arguments: for one in held {
             match one.value.flat(cells) {
                 Some(value) => arguments.push(alloc, value, one.read_only)?,

@@ -73,9 +73,10 @@ impl<H: Host> Run<H> {
             (raised m (frame_in frame.old self.old place))) (next ∷ []) count 1
             self.old.stacks.handlers result (moment frame.new self.new steps.new host.new) }
     {
+        let room = self.room.take(self.alloc);
         let operands = self.stacks.frame_operands();
         let given = &operands[operands.len() - count..];
-        let arguments = Arguments::of(self.alloc, &self.cells, given)?;
+        let arguments = Arguments::of(self.alloc, room, &self.cells, given)?;
         let Some(key) = callable(host, name, &arguments) else {
             return self.not_callable(context, host, steps, frame, name, arguments);
         };
@@ -88,6 +89,7 @@ impl<H: Host> Run<H> {
             HostAnswer::Done(value) => {
                 steps.mark();
                 steps.mark();
+                self.room.put(args.values);
                 self.stacks.cut(self.stacks.height() - count);
                 Ok(Performed::Leads(self.push_on(steps, frame, value, next)))
             }
@@ -95,7 +97,7 @@ impl<H: Host> Run<H> {
         }
     }
 
-    // The fault that no native of the name may be called with these arguments.
+    // Raises the fault that no native of the name may be called with these arguments.
     #[cold]
     #[inline(never)]
     fn not_callable<L: Ledger>(
@@ -172,8 +174,7 @@ impl<H: Host> Run<H> {
 
     /// What follows where no function has the name: the native, or the fault that an operand is a lent
     /// cell.
-    #[cold]
-    #[inline(never)]
+    #[inline(always)]
     pub fn native_by_name<L: Ledger>(
         &mut self,
         context: Context<'_>,

@@ -68,8 +68,8 @@ pub fn assign_entry(
     }
 }
 
-/// The integer that an op-assignment makes of a target and a value that are integers, if operators
-/// are fast and it fits. It says nothing of all else, of which `assign` tells.
+// The integer that an op-assignment makes of a target and a value that are integers, if operators
+// are fast and it fits. It says nothing of all else, of which `assign` tells.
 #[inline(always)]
 pub(crate) fn quick_assigned(
     engine: &Engine,
@@ -89,7 +89,7 @@ pub(crate) fn quick_assigned(
     }
 }
 
-/// The same of a target and an integer.
+// The same of a target and an integer.
 #[inline(always)]
 pub(crate) fn quick_assigned_with(
     engine: &Engine,

@@ -4,6 +4,7 @@ ghost use Rattle.std.specs.Prelude.{◌≡◌, ◌<◌, ◌+◌, nat_lt, true, i
 ghost use Rattle.grain_fault.specs.declared.faults.EvalAltResult.TheVariants as fault;
 
 use crate::activations::Activation;
+use crate::argument_room::ArgumentRoom;
 use crate::receivers::Receivers;
 use crate::saved::SavedScopes;
 use crate::waiting::Waiting;
@@ -20,21 +21,23 @@ use std::sync::ledger::Ledger;
 /// What a run has, but for its frame: where it takes memory from, the stacks, the scope of the
 /// running frame and those of the frames that wait for it, the cells, the operations and the level,
 /// the fault that was raised in a frame, until it is taken up, and where that frame stopped, the `this`
-/// of each frame that has one, and an instruction that waits for a native, until that is gone on with.
-/// The host, of type `H`, is lent to those functions alone that reach it.
+/// of each frame that has one, an instruction that waits for a native, until that is gone on with, and room
+/// for the arguments of natives.
+/// What an instruction reads most comes first. The host, of type `H`, is lent to those functions alone that reach it.
 #[derive(Drop)]
 pub struct Run<H> {
     pub alloc: Global,
-    pub stacks: Stacks,
     pub scope: Scope,
-    pub saved: SavedScopes,
-    pub cells: Store,
     pub count: u64,
     pub level: usize,
+    pub stacks: Stacks,
+    pub saved: SavedScopes,
+    pub cells: Store,
     pub fault: EvalAltResult,
     pub receivers: Receivers,
     pub stopped: Stopped,
     pub waiting: Option<Waiting>,
+    pub room: ArgumentRoom,
     pub host: PhantomData<H>,
 }
 

@@ -67,7 +67,7 @@ impl SavedScopes {
         ensures saved { self.new ≡ (if is_ok result then self.old ++ scope.old ∷ [] else self.old) }
         ensures scope { scope.new ≡ (if is_ok result then [] else scope.old) }
     {
-        // no scope is left beyond these, so it takes none away
+        // This takes nothing away, since no place was left: the proof needs the line.
         self.scopes.truncate(self.saved);
         let waiting = mem::replace(scope, Scope::new(self.alloc));
         match self.scopes.push(waiting) {

@@ -198,7 +198,7 @@ impl<H: Host> Run<H> {
     }
 }
 
-/// Whether a truth value is the one that is wanted.
+// Whether a truth value is the one that is wanted.
 #[inline(always)]
 pub(crate) fn agrees(wanted: bool, truth: bool) -> bool
     ensures { result ≡ agrees wanted truth }

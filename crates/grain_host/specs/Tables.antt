@@ -1,5 +1,5 @@
 -- The host in memory: what its calls answer, print and write, by its tables.
-use Rattle.std.specs.Prelude.{◌≡◌, ℕ, ℤ, ◌+◌, ◌-◌, ◌^◌, max, pos, Bool, false, ◌&&◌, ◌||◌, is_some, List, [], ◌∷◌, ◌++◌, Option, Some, None, codes, bytes_eq, ◌==◌, length, map, option_map, if◌then◌else◌}
+use Rattle.std.specs.Prelude.{ℕ, ℤ, ◌+◌, ◌-◌, ◌^◌, max, pos, Bool, false, ◌&&◌, ◌||◌, is_some, List, [], ◌∷◌, ◌++◌, Option, Some, None, codes, bytes_eq, ◌==◌, length, map, option_map, if◌then◌else◌}
 use Rattle.std.specs.Str.{chars}
 use Rattle.std.specs.List.{list_any}
 use Rattle.grain_value.specs.Tree.{Tree}
@@ -10,17 +10,14 @@ use Rattle.grain_value.specs.declared.values.Dynamic.TheVariants as dynamic
 use Rattle.grain_value.specs.declared.values.Held.{Held}
 use Rattle.grain_fault.specs.Places.{nowhere}
 use Rattle.grain_fault.specs.Problems.{Plain, Exit}
-use Rattle.grain_host.specs.Law.{Law, Reply, Done, Failed, Outcome, Verdict, GoOn, Stop, receiver_after}
+use Rattle.grain_host.specs.Law.{Law, Reply, Done, Failed, Outcome, Verdict, GoOn, Stop}
 use Rattle.grain_host.specs.Refusals.{failure, refused, unknown}
 use Rattle.grain_host.specs.Pending.{place_of, waiting_bound, waiting_clean}
 use Rattle.grain_host.specs.Mapping.{call_at, first_asked, goes_on, gone, mapped, next_asked, outcome_reply, start_reply, started}
 use Rattle.grain_host.specs.declared.callbacks.Tokens.{Tokens}
 use Rattle.grain_host.specs.declared.pending_calls.PendingCall.{PendingCall}
-use Rattle.grain_host.specs.Answers.{reply_of}
 use Rattle.grain_host.specs.Registers.{cleared, access_reply, asked, left_by, register_key_of}
 use Rattle.grain_host.specs.Stops.{stop_at, stops_bound, stops_clean}
-use Rattle.grain_host.specs.declared.host_answers.Args.{Args}
-use Rattle.grain_host.specs.declared.host_answers.HostAnswer.{HostAnswer}
 use Rattle.grain_host.specs.declared.register_natives.Access.{Access}
 use Rattle.grain_host.specs.declared.tables.TableHost.{TableHost}
 use Rattle.grain_host.specs.declared.tables.Turn.{Turn}
@@ -275,16 +272,3 @@ table_law = record {
   holds_clean = λ s. stops_clean s.stops;
   waits_clean = λ s. waiting_clean s.tokens.pending;
 }
-
--- one step was counted, and then it failed or was done: a call, or the outcome of what was asked with
--- a token
-abbrev pub IsStep : TableHost → ℕ → Args → HostAnswer → TableHost → Args → Type 0
-IsStep s key args a t left =
-    (reply_of a ≡ Some (table_law.call_reply s key args.receiver args.values))
-    × (t ≡ table_law.call_after s key args.receiver args.values)
-    × (left.receiver ≡ receiver_after table_law s key args.receiver args.values)
-
-abbrev pub IsResumed : TableHost → ℕ → Outcome → HostAnswer → TableHost → Type 0
-IsResumed s token outcome a t =
-    (reply_of a ≡ Some (resume_reply s (place_of token s.tokens.pending) outcome))
-    × (t ≡ resume_after s (place_of token s.tokens.pending) outcome)

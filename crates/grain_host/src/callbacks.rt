@@ -71,23 +71,27 @@ pub(crate) fn asks_first(call: &Option<PendingCall>) -> bool
 }
 
 // The host asks for a call with this one argument.
-fn ask(
-    alloc: Global,
-    token: u64,
-    pointer: &FnPtr,
-    element: &Dynamic,
-) -> Result<HostAnswer, OutOfMemory>
-    ensures { IfOk result (λ a. reply_of a
-        ≡ Some (Ask token pointer.now (tree element.now ∷ []))) }
+fn ask(alloc: Global, token: u64, pointer: &FnPtr, element: &Dynamic) -> HostAnswer
+    ensures { IfSome (reply_of result)
+        (λ reply. reply ≡ Ask token pointer.now (tree element.now ∷ [])) }
 {
-    let pointer = pointer.copy(alloc)?;
-    let mut arguments = Array::new(alloc);
-    arguments.push(element.copy(alloc)?)?;
-    Ok(HostAnswer::Ask {
-        token,
-        pointer,
-        arguments,
-    })
+    match (pointer.copy(alloc), array_of(alloc, element)) {
+        (Ok(pointer), Ok(arguments)) => HostAnswer::Ask {
+            token,
+            pointer,
+            arguments,
+        },
+        _ => HostAnswer::Memory,
+    }
+}
+
+// An array that has a copy of this value alone.
+fn array_of(alloc: Global, value: &Dynamic) -> Result<Array, OutOfMemory>
+    ensures { IfOk result (λ array. array ≡ tree value.now ∷ []) }
+{
+    let mut array = Array::new(alloc);
+    array.push(value.copy(alloc)?)?;
+    Ok(array)
 }
 
 impl Tokens {
@@ -102,14 +106,11 @@ impl Tokens {
     }
 
     /// Begins a call of `map`. After want of memory nothing changed.
-    pub(crate) fn begin(
-        &mut self,
-        alloc: Global,
-        call: Option<PendingCall>,
-    ) -> Result<HostAnswer, OutOfMemory>
+    pub(crate) fn begin(&mut self, alloc: Global, call: Option<PendingCall>) -> HostAnswer
         requires { HasRoom (is_some (first_asked call)) self.old }
-        ensures reply { IfOk result (λ a. reply_of a ≡ Some (start_reply call)) }
-        ensures tokens { self.new ≡ (if is_ok result then started call self.old else self.old) }
+        ensures reply { IfSome (reply_of result) (λ reply. reply ≡ start_reply call) }
+        ensures tokens { self.new
+            ≡ (if is_some (reply_of result) then started call self.old else self.old) }
     {
         match call {
             None => unknown(alloc),
@@ -117,21 +118,21 @@ impl Tokens {
         }
     }
 
-    fn begin_call(&mut self, alloc: Global, call: PendingCall) -> Result<HostAnswer, OutOfMemory>
+    fn begin_call(&mut self, alloc: Global, call: PendingCall) -> HostAnswer
         requires { HasRoom (is_some (slice_get call.elements 0)) self.old }
-        ensures reply { IfOk result (λ a. reply_of a ≡ Some (start_reply (Some call))) }
+        ensures reply { IfSome (reply_of result) (λ reply. reply ≡ start_reply (Some call)) }
         ensures tokens { self.new
-            ≡ (if is_ok result then started (Some call) self.old else self.old) }
+            ≡ (if is_some (reply_of result) then started (Some call) self.old else self.old) }
     {
-        match call.first() {
-            None => Ok(HostAnswer::Done(Dynamic::Array(call.into_answers()))),
-            Some(element) => {
-                let answer = ask(alloc, call.token(), call.pointer(), element)?;
-                self.pending.push(call)?;
-                self.given += 1;
-                Ok(answer)
-            }
+        let Some(element) = call.first() else {
+            return HostAnswer::Done(Dynamic::Array(call.into_answers()));
+        };
+        let answer = ask(alloc, call.token(), call.pointer(), element);
+        if answer.is_memory() || self.pending.push(call).is_err() {
+            return HostAnswer::Memory;
         }
+        self.given += 1;
+        answer
     }
 
     /// Whether an element is asked after this outcome.
@@ -156,55 +157,50 @@ impl Tokens {
         alloc: Global,
         place: Option<usize>,
         outcome: Result<Dynamic, HostFault>,
-    ) -> Result<HostAnswer, OutOfMemory>
+    ) -> HostAnswer
         requires inside { IfSome place (λ i. i < length self.old.pending) }
         requires room { HasRoom
             (is_some (next_asked (call_at self.old place) (outcome_of outcome))) self.old }
-        ensures reply { IfOk result (λ a. reply_of a
-            ≡ Some (outcome_reply self.old.given (call_at self.old place) (outcome_of outcome))) }
-        ensures tokens { self.new
-            ≡ (if is_ok result then goes_on place (outcome_of outcome) self.old else self.old) }
+        ensures reply { IfSome (reply_of result) (λ reply. reply
+            ≡ outcome_reply self.old.given (call_at self.old place) (outcome_of outcome)) }
+        ensures tokens { self.new ≡ (if is_some (reply_of result)
+            then goes_on place (outcome_of outcome) self.old else self.old) }
     {
         match (place, outcome) {
             (None, _) => unknown(alloc),
             (Some(place), Ok(value)) => self.answer(alloc, place, value),
             (Some(place), Err(fault)) => {
                 self.pending.remove(place);
-                Ok(HostAnswer::Failed(fault))
+                HostAnswer::Failed(fault)
             }
         }
     }
 
     // The call at the place has this answer to the element that was out.
-    fn answer(
-        &mut self,
-        alloc: Global,
-        place: usize,
-        value: Dynamic,
-    ) -> Result<HostAnswer, OutOfMemory>
+    fn answer(&mut self, alloc: Global, place: usize, value: Dynamic) -> HostAnswer
         requires inside { place < length self.old.pending }
         requires room { HasRoom
             (is_some (option_and_then next_of (slice_get self.old.pending place))) self.old }
-        ensures reply { IfOk result (λ a. IfSome (slice_get self.old.pending place) (λ p.
-            reply_of a
-            ≡ Some (next_reply self.old.given (answered self.old.given value p) (next_of p)))) }
+        ensures reply { IfSome (reply_of result) (λ reply.
+            IfSome (slice_get self.old.pending place) (λ p. reply
+            ≡ next_reply self.old.given (answered self.old.given value p) (next_of p))) }
         ensures tokens { let next = option_and_then next_of (slice_get self.old.pending place) in
-            self.new
-            ≡ (if is_ok result then asks_next place value next self.old else self.old) }
+            self.new ≡ (if is_some (reply_of result)
+            then asks_next place value next self.old else self.old) }
     {
         let call = self.pending.at(place);
-        match call.next() {
-            None => {
-                let answers = self.pending.finish(place, value)?;
-                Ok(HostAnswer::Done(Dynamic::Array(answers)))
-            }
-            Some(element) => {
-                let answer = ask(alloc, self.given, call.pointer(), element)?;
-                self.pending.answer(place, self.given, value)?;
-                self.given += 1;
-                Ok(answer)
-            }
+        let Some(element) = call.next() else {
+            return match self.pending.finish(place, value) {
+                Ok(answers) => HostAnswer::Done(Dynamic::Array(answers)),
+                Err(OutOfMemory) => HostAnswer::Memory,
+            };
+        };
+        let answer = ask(alloc, self.given, call.pointer(), element);
+        if answer.is_memory() || self.pending.answer(place, self.given, value).is_err() {
+            return HostAnswer::Memory;
         }
+        self.given += 1;
+        answer
     }
 
     /// The call with this token is gone, if there is one.

@@ -1,5 +1,8 @@
 //! What a host is given, and what it answers.
 
+ghost use Rattle.std.specs.Prelude.{◌≡◌, is_some, not};
+ghost use Rattle.grain_host.specs.Answers.{reply_of};
+
 use crate::host_faults::HostFault;
 use grain_value::{Array, Dynamic, FnPtr, Held};
 
@@ -32,6 +35,18 @@ pub enum HostAnswer {
     },
     /// There was no memory. The host and the receiver are as they were.
     Memory,
+}
+
+impl HostAnswer {
+    // Whether there was no memory.
+    pub(crate) fn is_memory(&self) -> bool
+        ensures { result ≡ not (is_some (reply_of self.now)) }
+    {
+        match self {
+            HostAnswer::Memory => true,
+            _ => false,
+        }
+    }
 }
 
 /// What a host answers when it hears how many operations a run has taken.

@@ -1,7 +1,8 @@
 //! The natives of the host in memory.
 
-ghost use Rattle.std.specs.Prelude.{◌≡◌, ◌++◌, Some, IfOk, is_ok, if◌then◌else◌, codes, map, option_copied, ◌∷◌, ◌<◌, ◌^◌, IfSome};
-ghost use Rattle.grain_value.specs.View.{value_of};
+ghost use Rattle.std.specs.Prelude.{◌≡◌, ◌++◌, [], Some, IfOk, is_ok, is_some, if◌then◌else◌, codes, map, option_copied, ◌∷◌, ◌<◌, ◌^◌, IfSome};
+ghost use Rattle.std.specs.Fmt.{decimal};
+ghost use Rattle.grain_value.specs.View.{tree, value_of};
 ghost use Rattle.grain_host.specs.Answers.{reply_of};
 ghost use Rattle.grain_host.specs.Registers.{asked, left_by};
 ghost use Rattle.grain_host.specs.Refusals.{failure, refused, unknown};
@@ -98,28 +99,50 @@ fn has_entries(kind: u32) -> bool
 }
 
 /// A failure of the host's own, for this reason.
-pub(crate) fn refused(alloc: Global, reason: &str) -> Result<HostAnswer, OutOfMemory>
-    ensures { IfOk result (λ a. reply_of a ≡ Some (refused reason.now)) }
+#[cold]
+#[inline(never)]
+pub(crate) fn refused(alloc: Global, reason: &str) -> HostAnswer
+    ensures { IfSome (reply_of result) (λ reply. reply ≡ refused reason.now) }
 {
-    let reason = Text::copy_of(alloc, reason)?;
-    let fault = EvalAltResult::ErrorSystem(Text::new(alloc), reason);
-    Ok(HostAnswer::Failed(HostFault::passing(fault)))
+    match Text::copy_of(alloc, reason) {
+        Ok(reason) => {
+            let fault = EvalAltResult::ErrorSystem(Text::new(alloc), reason);
+            HostAnswer::Failed(HostFault::passing(fault))
+        }
+        Err(OutOfMemory) => HostAnswer::Memory,
+    }
 }
 
 /// The call of this number fails.
-pub(crate) fn failure(alloc: Global, number: u64) -> Result<HostAnswer, OutOfMemory>
-    ensures { IfOk result (λ a. reply_of a ≡ Some (failure number)) }
+#[cold]
+#[inline(never)]
+pub(crate) fn failure(alloc: Global, number: u64) -> HostAnswer
+    ensures { IfSome (reply_of result) (λ reply. reply ≡ failure number) }
+{
+    match failure_text(alloc, number) {
+        Ok(text) => {
+            let fault = EvalAltResult::ErrorRuntime(Dynamic::Text(text), Position::NONE);
+            HostAnswer::Failed(HostFault::passing(fault))
+        }
+        Err(OutOfMemory) => HostAnswer::Memory,
+    }
+}
+
+// What is thrown where the call of this number fails.
+fn failure_text(alloc: Global, number: u64) -> Result<Text, OutOfMemory>
+    ensures { IfOk result (λ text. text ≡ codes "host failure " ++ decimal number) }
 {
     let mut text = Text::copy_of(alloc, "host failure ")?;
     text.push_number(number)?;
-    let fault = EvalAltResult::ErrorRuntime(Dynamic::Text(text), Position::NONE);
-    Ok(HostAnswer::Failed(HostFault::passing(fault)))
+    Ok(text)
 }
 
 /// No native has this key, or this one has no form for these arguments; or no token is pending that
 /// is resumed.
-pub(crate) fn unknown(alloc: Global) -> Result<HostAnswer, OutOfMemory>
-    ensures { IfOk result (λ a. reply_of a ≡ Some unknown) }
+#[cold]
+#[inline(never)]
+pub(crate) fn unknown(alloc: Global) -> HostAnswer
+    ensures { IfSome (reply_of result) (λ reply. reply ≡ unknown) }
 {
     refused(alloc, "unknown to the table host")
 }
@@ -131,17 +154,17 @@ pub(crate) fn perform(
     args: &mut Args,
     printed: &mut Text,
     registers: &mut Registers,
-) -> Result<HostAnswer, OutOfMemory>
+) -> HostAnswer
     ensures reply { let given = arguments args.old.receiver args.old.values in
-        IfOk result (λ a. reply_of a ≡ Some (native_reply registers.old key given)) }
+        IfSome (reply_of result) (λ reply. reply ≡ native_reply registers.old key given) }
     ensures printed { let given = arguments args.old.receiver args.old.values in
-        printed.new ≡ (if is_ok result then printed.old ++ printed_by key given else printed.old) }
+        printed.new ≡ (if is_some (reply_of result) then printed.old ++ printed_by key given else printed.old) }
     ensures receiver { args.new.receiver
-        ≡ (if is_ok result then received key args.old.receiver args.old.values
+        ≡ (if is_some (reply_of result) then received key args.old.receiver args.old.values
         else args.old.receiver) }
     ensures registers { let given = arguments args.old.receiver args.old.values in
         registers.new
-        ≡ (if is_ok result then registers_after key given registers.old else registers.old) }
+        ≡ (if is_some (reply_of result) then registers_after key given registers.old else registers.old) }
 {
     match key {
         PRINT => print(alloc, args, printed),
@@ -153,21 +176,17 @@ pub(crate) fn perform(
 }
 
 // Does what the native of this key asks of the registers.
-fn access(
-    alloc: Global,
-    key: u64,
-    args: &Args,
-    registers: &mut Registers,
-) -> Result<HostAnswer, OutOfMemory>
+#[inline(never)]
+fn access(alloc: Global, key: u64, args: &Args, registers: &mut Registers) -> HostAnswer
     ensures reply { let access = asked key (arguments args.now.receiver args.now.values) in
-        IfOk result (λ a. reply_of a ≡ Some (register_reply registers.old access)) }
+        IfSome (reply_of result) (λ reply. reply ≡ register_reply registers.old access) }
     ensures registers { let access = asked key (arguments args.now.receiver args.now.values) in
         registers.new
-        ≡ (if is_ok result then left_by registers.old access else registers.old) }
+        ≡ (if is_some (reply_of result) then left_by registers.old access else registers.old) }
 {
     match asked(key, args) {
         None => unknown(alloc),
-        Some(access) => Ok(access.perform(registers)),
+        Some(access) => access.perform(registers),
     }
 }
 
@@ -200,30 +219,40 @@ fn argument(args: &Args) -> Option<&Dynamic>
 }
 
 // Appends the plain text of the only argument, and LF.
-fn print(alloc: Global, args: &Args, printed: &mut Text) -> Result<HostAnswer, OutOfMemory>
+#[inline(never)]
+fn print(alloc: Global, args: &Args, printed: &mut Text) -> HostAnswer
     ensures reply { let given = sole (arguments args.now.receiver args.now.values) in
-        IfOk result (λ a. reply_of a ≡ Some (print_reply given)) }
+        IfSome (reply_of result) (λ reply. reply ≡ print_reply given) }
     ensures printed { let given = sole (arguments args.now.receiver args.now.values) in
-        printed.new ≡ (if is_ok result then printed.old ++ line_of given else printed.old) }
+        printed.new ≡ (if is_some (reply_of result) then printed.old ++ line_of given else printed.old) }
 {
     match argument(args) {
         None => unknown(alloc),
-        Some(value) => {
-            let mut line = Text::new(alloc);
-            value.write_plain(&mut line)?;
-            line.push_str("\n")?;
-            printed.push_str(line.as_str())?;
-            Ok(HostAnswer::Done(Dynamic::Unit))
-        }
+        Some(value) => match print_line(alloc, value, printed) {
+            Ok(()) => HostAnswer::Done(Dynamic::Unit),
+            Err(OutOfMemory) => HostAnswer::Memory,
+        },
     }
 }
 
+// Appends the plain text of a value, and LF. After want of memory the text is as it was.
+fn print_line(alloc: Global, value: &Dynamic, printed: &mut Text) -> Result<(), OutOfMemory>
+    ensures { printed.new
+        ≡ (if is_ok result then printed.old ++ line_of (Some value.now) else printed.old) }
+{
+    let mut line = Text::new(alloc);
+    value.write_plain(&mut line)?;
+    line.push_str("\n")?;
+    printed.push_str(line.as_str())
+}
+
 // Appends the second argument to the first, which is an array: to the receiver, if there is one.
-fn push(alloc: Global, args: &mut Args) -> Result<HostAnswer, OutOfMemory>
+#[inline(never)]
+fn push(alloc: Global, args: &mut Args) -> HostAnswer
     ensures reply { let given = first_of_two (arguments args.old.receiver args.old.values) in
-        IfOk result (λ a. reply_of a ≡ Some (push_reply given)) }
+        IfSome (reply_of result) (λ reply. reply ≡ push_reply given) }
     ensures receiver { args.new.receiver
-        ≡ (if is_ok result then pushed_receiver args.old.receiver args.old.values
+        ≡ (if is_some (reply_of result) then pushed_receiver args.old.receiver args.old.values
         else args.old.receiver) }
 {
     match &mut args.receiver {
@@ -233,12 +262,12 @@ fn push(alloc: Global, args: &mut Args) -> Result<HostAnswer, OutOfMemory>
 }
 
 // An array and a value: the array is dropped with the other arguments.
-fn push_values(alloc: Global, values: &Array) -> Result<HostAnswer, OutOfMemory>
-    ensures { IfOk result
-        (λ a. reply_of a ≡ Some (push_reply (first_of_two (map value_of values.now)))) }
+fn push_values(alloc: Global, values: &Array) -> HostAnswer
+    ensures { IfSome (reply_of result)
+        (λ reply. reply ≡ push_reply (first_of_two (map value_of values.now))) }
 {
     match first_of_two(values) {
-        Some(Dynamic::Array(_)) => Ok(HostAnswer::Done(Dynamic::Unit)),
+        Some(Dynamic::Array(_)) => HostAnswer::Done(Dynamic::Unit),
         _ => unknown(alloc),
     }
 }
@@ -255,11 +284,11 @@ fn first_of_two(values: &Array) -> Option<&Dynamic>
 }
 
 // Appends the only one of the values to the target, which is an array.
-fn push_onto(alloc: Global, target: &mut Dynamic, values: &Array) -> Result<HostAnswer, OutOfMemory>
+fn push_onto(alloc: Global, target: &mut Dynamic, values: &Array) -> HostAnswer
     ensures reply { let given = first_of_two (target.old ∷ map value_of values.now) in
-        IfOk result (λ a. reply_of a ≡ Some (push_reply given)) }
+        IfSome (reply_of result) (λ reply. reply ≡ push_reply given) }
     ensures target { target.new
-        ≡ (if is_ok result
+        ≡ (if is_some (reply_of result)
         then pushed target.old (sole (map value_of values.now))
         else target.old) }
 {
@@ -270,28 +299,32 @@ fn push_onto(alloc: Global, target: &mut Dynamic, values: &Array) -> Result<Host
 }
 
 // Appends a value to the target, which is an array.
-fn push_value(
-    alloc: Global,
-    target: &mut Dynamic,
-    value: &Dynamic,
-) -> Result<HostAnswer, OutOfMemory>
-    ensures reply { IfOk result (λ a. reply_of a ≡ Some (push_reply (Some target.old))) }
+fn push_value(alloc: Global, target: &mut Dynamic, value: &Dynamic) -> HostAnswer
+    ensures reply { IfSome (reply_of result) (λ reply. reply ≡ push_reply (Some target.old)) }
     ensures target { target.new
-        ≡ (if is_ok result then pushed target.old (Some value.now) else target.old) }
+        ≡ (if is_some (reply_of result) then pushed target.old (Some value.now) else target.old) }
 {
     match target {
-        Dynamic::Array(array) => {
-            array.push(value.copy(alloc)?)?;
-            Ok(HostAnswer::Done(Dynamic::Unit))
-        }
+        Dynamic::Array(array) => match push_copy(alloc, array, value) {
+            Ok(()) => HostAnswer::Done(Dynamic::Unit),
+            Err(OutOfMemory) => HostAnswer::Memory,
+        },
         _ => unknown(alloc),
     }
 }
 
+// Appends a copy of a value. After want of memory the array is as it was.
+fn push_copy(alloc: Global, array: &mut Array, value: &Dynamic) -> Result<(), OutOfMemory>
+    ensures { array.new
+        ≡ (if is_ok result then array.old ++ tree value.now ∷ [] else array.old) }
+{
+    array.push(value.copy(alloc)?)
+}
+
 // How many entries or characters the only argument has.
-fn len(alloc: Global, args: &Args) -> Result<HostAnswer, OutOfMemory>
+fn len(alloc: Global, args: &Args) -> HostAnswer
     ensures { let given = sole (arguments args.now.receiver args.now.values) in
-        IfOk result (λ a. reply_of a ≡ Some (len_reply given)) }
+        IfSome (reply_of result) (λ reply. reply ≡ len_reply given) }
 {
     match argument(args) {
         None => unknown(alloc),
@@ -299,12 +332,12 @@ fn len(alloc: Global, args: &Args) -> Result<HostAnswer, OutOfMemory>
     }
 }
 
-fn len_of(alloc: Global, value: &Dynamic) -> Result<HostAnswer, OutOfMemory>
-    ensures { IfOk result (λ a. reply_of a ≡ Some (len_reply (Some value.now))) }
+fn len_of(alloc: Global, value: &Dynamic) -> HostAnswer
+    ensures { IfSome (reply_of result) (λ reply. reply ≡ len_reply (Some value.now)) }
 {
     match entries_in(value) {
         None => unknown(alloc),
-        Some(count) => Ok(HostAnswer::Done(Dynamic::Int(count as i64))),
+        Some(count) => HostAnswer::Done(Dynamic::Int(count as i64)),
     }
 }
 
@@ -323,15 +356,19 @@ fn entries_in(value: &Dynamic) -> Option<usize>
 }
 
 // Ends the script with the only argument.
-fn exit(alloc: Global, args: &Args) -> Result<HostAnswer, OutOfMemory>
+#[inline(never)]
+fn exit(alloc: Global, args: &Args) -> HostAnswer
     ensures { let given = sole (arguments args.now.receiver args.now.values) in
-        IfOk result (λ a. reply_of a ≡ Some (exit_reply given)) }
+        IfSome (reply_of result) (λ reply. reply ≡ exit_reply given) }
 {
     match argument(args) {
         None => unknown(alloc),
-        Some(value) => {
-            let fault = EvalAltResult::Exit(value.copy(alloc)?, Position::NONE);
-            Ok(HostAnswer::Failed(HostFault::passing(fault)))
-        }
+        Some(value) => match value.copy(alloc) {
+            Ok(value) => {
+                let fault = EvalAltResult::Exit(value, Position::NONE);
+                HostAnswer::Failed(HostFault::passing(fault))
+            }
+            Err(OutOfMemory) => HostAnswer::Memory,
+        },
     }
 }

@@ -1,13 +1,13 @@
 //! A host that lives in memory.
 
-ghost use Rattle.std.specs.Prelude.{◌≡◌, IfOk, IfErr, Some, is_ok, true, if◌then◌else◌};
+ghost use Rattle.std.specs.Prelude.{◌≡◌, ◌==◌, IfOk, IfErr, IfSome, Some, is_ok, is_some, false, true, if◌then◌else◌};
 ghost use Rattle.grain_value.specs.Cells.{cell_bound, is_clean};
 ghost use Rattle.grain_value.specs.View.{tree};
-ghost use Rattle.grain_host.specs.Answers.{outcome_of, reply_of};
+ghost use Rattle.grain_host.specs.Answers.{Answers, outcome_of, reply_of};
 ghost use Rattle.grain_host.specs.Mapping.{HasRoom};
-ghost use Rattle.grain_host.specs.Pending.{waiting_bound};
+ghost use Rattle.grain_host.specs.Pending.{place_of, waiting_bound};
 ghost use Rattle.grain_host.specs.Refusals.{failure};
-ghost use Rattle.grain_host.specs.Tables.{table_law, blank, failing_at, map_after, map_reply, stopping_at, turn, IfReady, IsResumed, IsStep};
+ghost use Rattle.grain_host.specs.Tables.{table_law, blank, failing_at, map_after, map_reply, resume_after, resume_reply, stopping_at, turn, IfReady};
 ghost use Rattle.grain_host.specs.Lawful.{table_lawful};
 
 use crate::callbacks::{self, Tokens, asks_first, mapped};
@@ -109,49 +109,70 @@ impl TableHost {
     }
 
     // The step of this number fails. After want of memory nothing changed.
-    fn fail_step(&mut self, alloc: Global, number: u64) -> Result<HostAnswer, OutOfMemory>
-        ensures reply { IfOk result (λ a. reply_of a ≡ Some (failure number)) }
+    #[cold]
+    #[inline(never)]
+    fn fail_step(&mut self, alloc: Global, number: u64) -> HostAnswer
+        ensures reply { IfSome (reply_of result) (λ reply. reply ≡ failure number) }
         ensures state { self.new
-            ≡ (if is_ok result then record self.old { steps = number } else self.old) }
+            ≡ (if is_some (reply_of result) then record self.old { steps = number } else self.old) }
     {
-        let answer = table_natives::failure(alloc, number)?;
-        self.steps = number;
-        Ok(answer)
+        let answer = table_natives::failure(alloc, number);
+        self.count(&answer, number);
+        answer
     }
 
-    // One call. After want of memory nothing changed.
-    fn step(&mut self, alloc: Global, key: u64, args: &mut Args) -> Result<HostAnswer, OutOfMemory>
-        ensures done { IfOk result (λ a. IsStep self.old key args.old a self.new args.new) }
-        ensures unchanged { IfErr result (λ _.
-            (self.new ≡ self.old) × (args.new.receiver ≡ args.old.receiver)) }
+    // The step of this number is done, unless there was no memory for its answer.
+    fn count(&mut self, answer: &HostAnswer, number: u64)
+        ensures { self.new ≡ (if is_some (reply_of answer.now)
+            then record self.old { steps = number } else self.old) }
     {
-        if key == callbacks::MAP {
-            let call = mapped(alloc, self.tokens.given, args)?;
-            return self.map(alloc, call);
+        if !answer.is_memory() {
+            self.steps = number;
         }
+    }
+
+    // One call of a native that is not `map`. After want of memory nothing changed.
+    #[inline(always)]
+    fn step(&mut self, alloc: Global, key: u64, args: &mut Args) -> HostAnswer
+        requires { (key == 4) ≡ false }
+        ensures { Answers table_law self.old key args.old result self.new args.new }
+    {
         match self.turn(false) {
             Turn::Full => table_natives::refused(alloc, "table host is full"),
             Turn::Failing(number) => self.fail_step(alloc, number),
             Turn::Ready(number) => {
-                let answer = perform(alloc, key, args, &mut self.printed, &mut self.registers)?;
-                self.steps = number;
-                Ok(answer)
+                let answer = perform(alloc, key, args, &mut self.printed, &mut self.registers);
+                self.count(&answer, number);
+                answer
             }
         }
     }
 
+    // A call of `map` with these arguments. After want of memory nothing changed.
+    #[cold]
+    #[inline(never)]
+    fn call_map(&mut self, alloc: Global, args: &Args) -> HostAnswer
+        ensures { Answers table_law self.old 4 args.now result self.new args.now }
+    {
+        match mapped(alloc, self.tokens.given, args) {
+            Ok(call) => self.map(alloc, call),
+            Err(OutOfMemory) => HostAnswer::Memory,
+        }
+    }
+
     // A call of `map`. After want of memory nothing changed.
-    fn map(&mut self, alloc: Global, call: Option<PendingCall>) -> Result<HostAnswer, OutOfMemory>
-        ensures reply { IfOk result (λ a. reply_of a ≡ Some (map_reply self.old call)) }
-        ensures state { self.new ≡ (if is_ok result then map_after self.old call else self.old) }
+    fn map(&mut self, alloc: Global, call: Option<PendingCall>) -> HostAnswer
+        ensures reply { IfSome (reply_of result) (λ reply. reply ≡ map_reply self.old call) }
+        ensures state { self.new
+            ≡ (if is_some (reply_of result) then map_after self.old call else self.old) }
     {
         match self.turn(asks_first(&call)) {
             Turn::Full => table_natives::refused(alloc, "table host is full"),
             Turn::Failing(number) => self.fail_step(alloc, number),
             Turn::Ready(number) => {
-                let answer = self.tokens.begin(alloc, call)?;
-                self.steps = number;
-                Ok(answer)
+                let answer = self.tokens.begin(alloc, call);
+                self.count(&answer, number);
+                answer
             }
         }
     }
@@ -162,19 +183,21 @@ impl TableHost {
         alloc: Global,
         token: u64,
         outcome: Result<Dynamic, HostFault>,
-    ) -> Result<HostAnswer, OutOfMemory>
-        ensures done { IfOk result (λ a.
-            IsResumed self.old token (outcome_of outcome) a self.new) }
-        ensures unchanged { IfErr result (λ _. self.new ≡ self.old) }
+    ) -> HostAnswer
+        ensures reply { IfSome (reply_of result) (λ reply. reply
+            ≡ resume_reply self.old (place_of token self.old.tokens.pending) (outcome_of outcome)) }
+        ensures state { self.new ≡ (if is_some (reply_of result)
+            then resume_after self.old (place_of token self.old.tokens.pending) (outcome_of outcome)
+            else self.old) }
     {
         let place = self.tokens.pending.place(token);
         match self.turn(self.tokens.asks_next(place, &outcome)) {
             Turn::Full => table_natives::refused(alloc, "table host is full"),
             Turn::Failing(number) => self.fail_step(alloc, number),
             Turn::Ready(number) => {
-                let answer = self.tokens.go_on(alloc, place, outcome)?;
-                self.steps = number;
-                Ok(answer)
+                let answer = self.tokens.go_on(alloc, place, outcome);
+                self.count(&answer, number);
+                answer
             }
         }
     }
@@ -192,10 +215,10 @@ impl Host for TableHost {
     }
 
     fn call(&mut self, alloc: Global, key: u64, args: &mut Args) -> HostAnswer {
-        match self.step(alloc, key, args) {
-            Ok(answer) => answer,
-            Err(OutOfMemory) => HostAnswer::Memory,
+        if key == callbacks::MAP {
+            return self.call_map(alloc, args);
         }
+        self.step(alloc, key, args)
     }
 
     fn resume(
@@ -205,10 +228,7 @@ impl Host for TableHost {
         outcome: Result<Dynamic, HostFault>,
         _args: &mut Args,
     ) -> HostAnswer {
-        match self.resume_step(alloc, token, outcome) {
-            Ok(answer) => answer,
-            Err(OutOfMemory) => HostAnswer::Memory,
-        }
+        self.resume_step(alloc, token, outcome)
     }
 
     fn forget(&mut self, token: u64) {

@@ -35,7 +35,7 @@ use Rattle.grain_means.specs.Worlds.{is_stop, Place, Answer, Came, Failed}
 use Rattle.grain_means.specs.Places.{look, put, next_root}
 use Rattle.grain_means.specs.Tasks.{Walked, WalkEnded, WalkFailed, Task, Done, Mark, Look, Flatten, Write, Root, Drop, Need, Invoke, Own, Play, play, root_after}
 use Rattle.grain_means.specs.Walks as walks
-use Rattle.grain_means.specs.Walks.{Setting, Course, Rest, Next, Role, Passes, Reads, Writes, Operates, Origin, OfPart, OfIndex, OfProperty, OfMethod, OfNothing, at_mark, failing, flat_or_busy, flattening, asking, is_indexed, assigning, origin_of_part, skips, role_at_end}
+use Rattle.grain_means.specs.Walks.{Setting, Course, Rest, Next, Role, Passes, Reads, Writes, Operates, Origin, OfPart, OfIndex, OfProperty, OfMethod, OfNothing, at_mark, failing, flat_or_busy, flattening, is_indexed, assigning, origin_of_part, skips, role_at_end}
 use Rattle.grain_means.specs.WalkEnds.{AllEnds, PlayEnds, EndsRight, WalkEnds}
 use Rattle.grain_means.specs.lemmas.PlaceLaws.{length-put}
 

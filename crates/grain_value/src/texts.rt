@@ -13,19 +13,25 @@ use crate::quoting::Quoted;
 use std::alloc::Global;
 use std::fmt;
 use std::marker::Model;
+use std::rc::Rc;
 
-/// A text. Clauses see its bytes, which are UTF-8.
+/// A text. A copy shares its characters until one of the two is written, so that a copy takes no memory.
+/// Clauses see the bytes, which are UTF-8.
 #[derive(Drop)]
 pub struct Text {
-    text: String,
+    // the allocator of the characters
+    alloc: Global,
+    // nothing, where the text is empty and has taken no memory
+    shared: Option<Rc<String>>,
 }
 
 impl Model for Text {
-    ghost use Rattle.std.specs.Prelude.{ℕ, List, string_bytes};
+    ghost use Rattle.std.specs.Prelude.{ℕ, List, [], string_bytes};
+    ghost use Rattle.std.specs.Option.{option_map, unwrap_or};
 
     ghost Value = { List ℕ };
 
-    ghost view = { λ t. string_bytes t.text };
+    ghost view = { λ t. unwrap_or (option_map (λ s. string_bytes s.value) t.shared) [] };
 }
 
 impl Text {
@@ -34,7 +40,8 @@ impl Text {
         ensures { result ≡ [] }
     {
         Text {
-            text: String::new(alloc),
+            alloc,
+            shared: None,
         }
     }
 
@@ -42,29 +49,38 @@ impl Text {
     pub fn allocator(&self) -> Global
         ensures { (alloc : Global) → result ≡ alloc }
     {
-        *self.text.allocator()
+        self.alloc
     }
 
     /// A text of these characters.
     pub fn copy_of(alloc: Global, s: &str) -> Result<Text, OutOfMemory>
         ensures { IfOk result (λ t. t ≡ s.now) }
     {
-        let text = String::from_str(alloc, s)?;
-        Ok(Text { text })
+        let characters = String::from_str(alloc, s)?;
+        let shared = Rc::new(alloc, characters)?;
+        Ok(Text {
+            alloc,
+            shared: Some(shared),
+        })
     }
 
-    /// An equal text.
+    /// An equal text, which shares its characters with this one. It takes no memory, and answers that there
+    /// is none only where the number of texts that share them would no longer fit.
     pub fn copy(&self, alloc: Global) -> Result<Text, OutOfMemory>
         ensures { IfOk result (λ t. t ≡ self.now) }
     {
-        Text::copy_of(alloc, self.as_str())
+        let shared = match &self.shared {
+            Some(characters) => Some(characters.clone()?),
+            None => None,
+        };
+        Ok(Text { alloc, shared })
     }
 
     /// How many bytes the text has.
     pub fn len(&self) -> usize
         ensures { result ≡ length self.now }
     {
-        self.text.len()
+        self.as_str().len()
     }
 
     /// How many characters the text has.
@@ -79,35 +95,56 @@ impl Text {
     pub fn is_empty(&self) -> bool
         ensures { result ≡ (length self.now == 0) }
     {
-        self.text.is_empty()
+        self.as_str().is_empty()
     }
 
     /// The byte at the index, if there is one.
     pub fn get(&self, index: usize) -> Option<u8>
         ensures { result ≡ slice_get self.now index }
     {
-        self.text.as_bytes().get(index).copied()
+        self.as_str().as_bytes().get(index).copied()
     }
 
     /// The text as it is.
     pub fn as_str(&self) -> &str
         ensures { result.now ≡ self.now }
     {
-        self.text.as_str()
+        match &self.shared {
+            Some(characters) => characters.as_str(),
+            None => "",
+        }
     }
 
-    // The text as a `String`, which it gives up.
-    pub(crate) fn into_string(self) -> String
-        ensures { string_bytes result ≡ self }
+    // The text as a `String` of its own.
+    pub(crate) fn into_string(self) -> Result<String, OutOfMemory>
+        ensures { IfOk result (λ s. string_bytes s ≡ self) }
     {
-        self.text
+        match self.shared {
+            Some(characters) => Ok(Rc::unwrap_or_clone(characters)?),
+            None => Ok(String::new(self.alloc)),
+        }
+    }
+
+    // Takes memory for characters that are to be written, if the text has none yet.
+    fn begin(&mut self) -> Result<(), OutOfMemory>
+        ensures { self.new ≡ self.old }
+    {
+        if self.shared.is_none() {
+            let characters = Rc::new(self.alloc, String::new(self.alloc))?;
+            self.shared = Some(characters);
+        }
+        Ok(())
     }
 
     /// Puts these characters at the end. After want of memory the text is as it was.
     pub fn push_str(&mut self, s: &str) -> Result<(), OutOfMemory>
         ensures { self.new ≡ (if is_ok result then self.old ++ s.now else self.old) }
     {
-        self.text.push_str(s)?;
+        self.begin()?;
+        let Some(characters) = &mut self.shared else {
+            return Err(OutOfMemory);
+        };
+        Rc::make_mut(characters)?.push_str(s)?;
         Ok(())
     }
 
@@ -116,7 +153,11 @@ impl Text {
         ensures { self.new
             ≡ (if is_ok result then self.old ++ encode_utf8 character else self.old) }
     {
-        self.text.push(character)?;
+        self.begin()?;
+        let Some(characters) = &mut self.shared else {
+            return Err(OutOfMemory);
+        };
+        Rc::make_mut(characters)?.push(character)?;
         Ok(())
     }
 
@@ -150,7 +191,11 @@ impl Text {
             self.new ≡ (if is_ok result then self.old ++ text else self.old)) }
         ensures unchanged { IfErr result (λ _. self.new ≡ self.old) }
     {
-        append(&mut self.text, value)
+        self.begin()?;
+        let Some(characters) = &mut self.shared else {
+            return Err(OutOfMemory);
+        };
+        append(Rc::make_mut(characters)?, value)
     }
 }
 

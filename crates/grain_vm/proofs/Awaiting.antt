@@ -1,6 +1,5 @@
 -- An instruction that waits for this native, and the run before the native is taken out of it.
-use Rattle.std.proofs.Common.{◌≡◌, ◌∙◌, ℕ, List, Option, Some, IfSome, false, Result, Ok, refl, sym, subst}
-use Rattle.grain_value.specs.declared.memory.OutOfMemory.{OutOfMemory}
+use Rattle.std.proofs.Common.{◌≡◌, ◌∙◌, ℕ, List, Option, Some, IfSome, false, Result, Ok, sym, subst}
 use Rattle.grain_value.specs.declared.scopes.Entry.{Entry}
 use Rattle.grain_value.specs.declared.values.Dynamic.{Dynamic}
 use Rattle.grain_value.specs.declared.values.Held.{Held}
@@ -12,7 +11,7 @@ use Rattle.grain_means.specs.Worlds.{Setup}
 use Rattle.grain_means.specs.Simulation.{Computation, Simulates}
 use Rattle.grain_frame.specs.Abstraction.{KeepsFrame, Moment, abstraction, frame_in}
 use Rattle.grain_frame.specs.Targets.{home_of}
-use Rattle.grain_frame.specs.Waiting.{ImplementsOrWaits, IsKept, LandsOrWaits, LeadsTo, Lends, asking, rest_of, waits_continuation}
+use Rattle.grain_frame.specs.Waiting.{ImplementsOrWaits, IsKept, LeadsTo, Lends, asking, rest_of, waits_continuation}
 use Rattle.grain_frame.specs.declared.native_calls.Asked.{Asked}
 use Rattle.grain_frame.specs.declared.runs.Run.{Run}
 use Rattle.grain_frame.specs.declared.targets.Target.TheVariants as to

@@ -12,10 +12,8 @@ use Rattle.grain_fault.specs.declared.faults.EvalAltResult.{EvalAltResult}
 use Rattle.grain_fault.specs.declared.faults.EvalAltResult.TheVariants as fault
 use Rattle.grain_fault.specs.declared.places.Position.{Position}
 use Rattle.grain_program.specs.Lookups.{function_by_text}
-use Rattle.grain_program.specs.View.{View}
 use Rattle.grain_program.specs.declared.code.functions.Function.{Function}
 use Rattle.grain_global.specs.StepsView.{StepsView}
-use Rattle.grain_global.specs.declared.engines.Engine.{Engine}
 use Rattle.grain_means.specs.Worlds.{is_stop, Act, Answer, Callback, End, Failed, Place, Setup, World}
 use Rattle.grain_means.specs.Ends.{Ends}
 use Rattle.grain_means.specs.Rules.{arguments_back, called_back, callee_called_back, function_back, function_by_name, function_called, function_numbered, function_under, native_called_back, position}

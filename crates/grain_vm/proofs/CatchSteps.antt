@@ -1,5 +1,5 @@
 -- A handler catches: the cuts, the variable, and the charge at its target.
-use Rattle.std.proofs.Common.{◌≡◌, ◌∙◌, ◌+◌, ◌-◌, ℕ, List, [], ◌∷◌, ◌++◌, Option, Some, Bool, true, false, Result, Ok, Err, length, map, take, drop, nat_lt, nat_le, if◌then◌else◌, zero, suc, refl, sym, ap, subst, arith}
+use Rattle.std.proofs.Common.{◌≡◌, ◌∙◌, ◌+◌, ◌-◌, ℕ, List, [], ◌∷◌, ◌++◌, Option, Some, Bool, true, false, Result, Ok, Err, length, map, take, nat_lt, nat_le, if◌then◌else◌, zero, suc, refl, sym, ap, subst, arith}
 use Rattle.std.proofs.lemmas.List.{drop-map, length-map}
 use Rattle.std.specs.Prelude.{slice_get, slice_index_or}
 use Rattle.grain_value.specs.declared.values.Dynamic.{Dynamic}

@@ -1,12 +1,12 @@
 -- One turn of the loop over what the walk of a chain calls: a function, or a native that asks for a call
 -- first.
-use Rattle.std.proofs.Common.{◌≡◌, ◌∙◌, ◌+◌, ◌≤◌, ℕ, List, [], Option, None, Bool, true, false, Result, refl, sym, ap, subst, arith}
+use Rattle.std.proofs.Common.{◌≡◌, ◌∙◌, ◌+◌, ℕ, List, [], Option, None, Bool, true, false, Result, refl, sym, ap, subst, arith}
 use Rattle.std.specs.Prelude.{Some, slice_get}
 use Rattle.grain_value.specs.declared.values.Dynamic.{Dynamic}
 use Rattle.grain_value.specs.declared.values.Held.{Held}
 use Rattle.grain_fault.specs.declared.faults.EvalAltResult.{EvalAltResult}
 use Rattle.grain_fault.specs.declared.traces.Fault.{Fault}
-use Rattle.grain_program.specs.View.{View, chain_of}
+use Rattle.grain_program.specs.View.{chain_of}
 use Rattle.grain_program.specs.declared.code.functions.Function.{Function}
 use Rattle.grain_program.specs.declared.code.instruction_set.Op.TheVariants as op
 use Rattle.grain_global.specs.StepsView.{StepsView}
@@ -20,7 +20,6 @@ use Rattle.grain_chain.specs.Walking.{Did, Falls, Waits, is_want, lent, outcome_
 use Rattle.grain_chain.specs.declared.requests.WalkAnswer.{WalkAnswer}
 use Rattle.grain_chain.specs.declared.walks.Walk.{Walk}
 use Rattle.grain_frame.specs.Abstraction.{Moment, abstraction, frame_in}
-use Rattle.grain_frame.specs.Natives.{IsAt}
 use Rattle.grain_frame.specs.Waiting.{apart_of}
 use Rattle.grain_frame.specs.declared.activations.Activation.{Activation}
 use Rattle.grain_frame.specs.declared.runs.Run.{Run}

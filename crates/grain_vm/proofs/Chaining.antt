@@ -25,7 +25,7 @@ use Rattle.grain_means.specs.Rules.Chains.{assigned_operand, assigned_value, at_
 use Rattle.grain_means.specs.Simulation.{Binds, Environment, Computation, Simulates, stopped, world}
 use Rattle.grain_means.specs.lemmas.Stretches.{compose}
 use Rattle.grain_chain.specs.Walking as walking
-use Rattle.grain_chain.specs.Walking.{Did, Falls, Waits, assigned_by, ending_in, is_want, lent, new_course, outcome_of, resumed, roots_at, roots_of, steps_of, with_receiver}
+use Rattle.grain_chain.specs.Walking.{assigned_by, ending_in, new_course, steps_of}
 use Rattle.grain_frame.specs.lemmas.Bound.{held_is, reading}
 use Rattle.grain_frame.specs.Abstraction.{abstraction, frame_in, this_of, marked_once, moment, ContinuesAt, Implements, ImplementsBound, KeepsFrame}
 use Rattle.grain_vm.specs.Chains.{KeepsValue, RootFound, TakesCopies, home_in, is_free, plain_home, root_held, root_index, value_taken}

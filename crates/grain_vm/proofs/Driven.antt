@@ -14,7 +14,6 @@ use Rattle.grain_fault.specs.Problems.{problem_of}
 use Rattle.grain_fault.specs.declared.faults.EvalAltResult.{EvalAltResult}
 use Rattle.grain_fault.specs.declared.traces.Fault.{Fault}
 use Rattle.grain_program.specs.View.{View}
-use Rattle.grain_program.specs.declared.code.functions.Function.{Function}
 use Rattle.grain_global.specs.StepsView.{StepsView}
 use Rattle.grain_means.specs.Worlds.{Frame, Place, Setup}
 use Rattle.grain_means.specs.Places.{or_unit, along, find, put, put_held}

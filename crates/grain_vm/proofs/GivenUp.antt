@@ -10,10 +10,10 @@ use Rattle.grain_fault.specs.Problems.{NoMemory}
 use Rattle.grain_fault.specs.declared.traces.Fault.{Fault}
 use Rattle.grain_program.specs.declared.code.functions.Function.{Function}
 use Rattle.grain_global.specs.StepsView.{StepsView}
-use Rattle.grain_means.specs.Worlds.{is_stop, Act, Answer, Callback, End, Failed, Frame, Go, InHost, Place, Setup, Then, World}
+use Rattle.grain_means.specs.Worlds.{is_stop, Act, Answer, Callback, End, Failed, Frame, Place, Setup, World}
 use Rattle.grain_means.specs.Tasks.{Task}
 use Rattle.grain_means.specs.Ends.{Ends, ended, joined, went}
-use Rattle.grain_means.specs.Rules.{arguments_back, called_back_over, callee_called_back, calling_back, cells_with, function_back, native_called_back, next, position, with_token, without_token}
+use Rattle.grain_means.specs.Rules.{arguments_back, called_back_over, callee_called_back, calling_back, cells_with, function_back, native_called_back, position, with_token, without_token}
 use Rattle.grain_means.specs.Rules.InWorld.{placed}
 use Rattle.grain_means.specs.Simulation.{Binds, Simulates, puts, stopped, world}
 use Rattle.grain_means.specs.lemmas.Roots.{puts-bound}
@@ -23,7 +23,7 @@ use Rattle.grain_frame.specs.declared.runs.Run.{Run}
 use Rattle.grain_frame.specs.declared.waiting.Loan.{Loan}
 use Rattle.grain_frame.specs.declared.waiting.Loan.TheVariants as have
 use Rattle.grain_vm.specs.Driving.{IsApart, beside}
-use Rattle.grain_vm.specs.Seats.{Rests, Seat, Seated, base_count, base_place, base_roots, kept_by, lent_place, walk_asking, walk_seated}
+use Rattle.grain_vm.specs.Seats.{Rests, Seat, base_count, base_place, base_roots, kept_by, lent_place, walk_asking, walk_seated}
 use Rattle.grain_vm.specs.declared.driving.AskingNative.{AskingNative}
 use Rattle.grain_vm.proofs.Invoking.{under_out}
 use Rattle.grain_vm.proofs.Lifted.{over_in, untraced}

@@ -1,7 +1,6 @@
 -- A native that asked for calls is over, and its fault is raised at a mark: where a walk called it, and where
 -- another native called it back.
-use Rattle.std.proofs.Common.{◌≡◌, ◌∙◌, ◌+◌, ◌<◌, ◌≤◌, ◌&&◌, ℕ, List, [], Option, Some, None, Bool, true, false, if◌then◌else◌, Result, Ok, Err, inl, inr, refl, sym, ap, subst, arith}
-use Rattle.grain_value.specs.declared.scopes.Entry.{Entry}
+use Rattle.std.proofs.Common.{◌≡◌, ◌∙◌, ◌+◌, ◌≤◌, ◌&&◌, ℕ, List, Option, None, Bool, true, false, if◌then◌else◌, Result, Ok, Err, inl, inr, refl, sym, ap, subst, arith}
 use Rattle.grain_value.specs.declared.values.Dynamic.{Dynamic}
 use Rattle.grain_value.specs.declared.values.Held.{Held}
 use Rattle.grain_fault.specs.Absences.{is_indexing_type}
@@ -10,11 +9,10 @@ use Rattle.grain_fault.specs.declared.faults.EvalAltResult.{EvalAltResult}
 use Rattle.grain_fault.specs.declared.faults.EvalAltResult.TheVariants as fault
 use Rattle.grain_fault.specs.declared.traces.Fault.{Fault}
 use Rattle.grain_global.specs.StepsView.{StepsView}
-use Rattle.grain_means.specs.Worlds.{is_stop, Act, Answer, Came, Failed, Frame, Place, Setup, World}
-use Rattle.grain_means.specs.Tasks.{Task}
+use Rattle.grain_means.specs.Worlds.{Act, Answer, Came, Failed, Setup, World}
 use Rattle.grain_means.specs.Rules.{native_over}
 use Rattle.grain_means.specs.Rules.InWorld.{failed_so, missed_by, trace_of}
-use Rattle.grain_means.specs.Simulation.{NoStopWithin, SimulatesExactly, StopPersists, StopsHere, puts, stopped, world}
+use Rattle.grain_means.specs.Simulation.{NoStopWithin, StopPersists, StopsHere, puts, stopped, world}
 use Rattle.grain_means.specs.lemmas.Spreading.{spread}
 use Rattle.grain_means.specs.lemmas.Stretches.{compose, same}
 use Rattle.grain_chain.specs.Walking.{is_want, no_memory, outcome_of}
@@ -22,15 +20,15 @@ use Rattle.grain_frame.specs.Waiting.{IsKept, apart_of, state_after}
 use Rattle.grain_frame.specs.declared.runs.Run.{Run}
 use Rattle.grain_frame.specs.declared.waiting.Loan.{Loan}
 use Rattle.grain_frame.specs.declared.waiting.Loan.TheVariants as have
-use Rattle.grain_vm.specs.Asks.{EndsNative, FinishesNative, IsMissed, NativeOver, RaisesInWalk, RaisesTraced, RaisesUnlessOut, has_missed, has_no_indexer, raised_to}
+use Rattle.grain_vm.specs.Asks.{EndsNative, FinishesNative, IsMissed, NativeOver, RaisesInWalk, RaisesTraced, RaisesUnlessOut, has_missed, raised_to}
 use Rattle.grain_vm.specs.Driving.{IsApart, SameFlag, beside}
 use Rattle.grain_vm.specs.Methods.{MethodOver}
-use Rattle.grain_vm.specs.Seats.{Rests, Seat, base_place, base_roots, goes_on_from, kept_by, walk_seated}
+use Rattle.grain_vm.specs.Seats.{base_place, base_roots, goes_on_from, kept_by}
 use Rattle.grain_vm.specs.WalkNatives.{NativeWalked}
 use Rattle.grain_vm.specs.declared.driving.Answered.TheVariants as answered
 use Rattle.grain_vm.specs.declared.driving.AskingNative.{AskingNative}
 use Rattle.grain_vm.proofs.GivenUp.{gave_up}
-use Rattle.grain_vm.proofs.Lifted.{untraced, walk_answered, walk_asked}
+use Rattle.grain_vm.proofs.Lifted.{untraced, walk_asked}
 use Rattle.grain_vm.proofs.Missing.{missed_now, missed_same, trace_came}
 
 is_memory : (x : Problem) → no_memory x ≡ true → x ≡ NoMemory

@@ -1,7 +1,7 @@
 -- What is noted of a property that was missed, and the trace that is kept of it.
-use Rattle.std.proofs.Common.{◌≡◌, ◌∙◌, ◌&&◌, List, [], Option, Some, None, Bool, true, false, if◌then◌else◌, refl, sym, ap}
+use Rattle.std.proofs.Common.{◌≡◌, ◌∙◌, ◌&&◌, List, Option, Some, None, Bool, true, false, if◌then◌else◌, refl, sym, ap}
 use Rattle.grain_fault.specs.Absences.{is_dot_expr, is_indexing_type, kind_is_dot_expr, kind_is_indexing_type}
-use Rattle.grain_fault.specs.Problems.{DotExpr, FaultKind, InFunctionCall, InModule, IndexingType, NoMemory, Plain, Problem, SystemError}
+use Rattle.grain_fault.specs.Problems.{DotExpr, FaultKind, InFunctionCall, InModule, NoMemory, Plain, Problem, SystemError}
 use Rattle.grain_fault.specs.declared.traces.Fault.{Fault}
 use Rattle.grain_means.specs.Worlds.{Answer, Came, Failed}
 use Rattle.grain_means.specs.Rules.InWorld.{missed_by, trace_of}

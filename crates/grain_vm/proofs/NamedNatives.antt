@@ -31,8 +31,6 @@ use Rattle.grain_frame.specs.declared.runs.Run.{Run}
 use Rattle.grain_frame.specs.declared.targets.Target.TheVariants as to
 use Rattle.grain_frame.specs.declared.waiting.Performed.{Performed}
 use Rattle.grain_frame.specs.declared.waiting.Performed.TheVariants as performed
-use Rattle.grain_frame.specs.declared.waiting.Waiting.{Waiting}
-use Rattle.grain_frame.specs.lemmas.Arms.{taken_back}
 use Rattle.grain_frame.specs.lemmas.Bound.{as_bound, bound_as}
 use Rattle.grain_frame.specs.lemmas.Failing.{native_stops, wants_memory}
 use Rattle.grain_vm.specs.Asks.{Awaits}

@@ -6,7 +6,7 @@ use Rattle.grain_program.specs.laws.TypedAt.{uncovered}
 use Rattle.grain_stack.specs.declared.handlers.Handler.{Handler}
 use Rattle.grain_stack.specs.Views.{StacksView}
 use Rattle.grain_means.specs.Worlds as worlds
-use Rattle.grain_means.specs.Worlds.{Frame, Setup, World, Go, InCatch}
+use Rattle.grain_means.specs.Worlds.{Frame, Setup, World}
 use Rattle.grain_means.specs.Rules.{if_armed, leave_by_fault, offered_to, thrown_anew}
 use Rattle.grain_frame.specs.Abstraction.{handlers_in, try_in, tries_in}
 use Rattle.grain_vm.specs.Catching.{StandsFor}

@@ -1,6 +1,6 @@
 -- A pointer is called with its receiver: the operands are taken, the call is done, and the receiver goes
 -- where the instruction says.
-use Rattle.std.proofs.Common.{◌≡◌, ◌∙◌, ◌+◌, ◌-◌, ◌<◌, ◌≤◌, ℕ, List, [], ◌∷◌, ◌++◌, Option, Some, None, Bool, true, false, Result, Ok, Err, length, map, take, refl, sym, ap, subst, arith}
+use Rattle.std.proofs.Common.{◌≡◌, ◌∙◌, ◌+◌, ◌-◌, ◌<◌, ◌≤◌, ℕ, List, [], ◌∷◌, ◌++◌, Option, Some, None, false, Result, Ok, Err, length, map, take, refl, sym, ap, subst, arith}
 use Rattle.std.specs.Prelude.{slice_get}
 use Rattle.std.proofs.lemmas.List.{append-nil, length-append, length-map, length-take-le}
 use Rattle.grain_value.specs.Tree.{Tree}
@@ -13,14 +13,12 @@ use Rattle.grain_value.specs.declared.values.FnPtr.{FnPtr}
 use Rattle.grain_value.specs.declared.values.Held.{Held}
 use Rattle.grain_fault.specs.declared.faults.EvalAltResult.{EvalAltResult}
 use Rattle.grain_host.specs.Law.{Law}
-use Rattle.grain_program.specs.Lookups.{function_by_text}
-use Rattle.grain_program.specs.View.{View, name_of, position_of}
+use Rattle.grain_program.specs.View.{View, position_of}
 use Rattle.grain_program.specs.declared.code.functions.Function.{Function}
 use Rattle.grain_global.specs.StepsView.{StepsView}
 use Rattle.grain_global.specs.declared.engines.Engine.{Engine}
-use Rattle.grain_means.specs.Worlds.{is_stop, Act, Answer, Frame, Place, Setup, World}
+use Rattle.grain_means.specs.Worlds.{Act, Answer, Frame, Place, World}
 use Rattle.grain_means.specs.Means.{setup}
-use Rattle.grain_means.specs.Places.{look}
 use Rattle.grain_means.specs.Rules.{callee_on, curried_in, function_by_name, function_numbered, operand_under, receiver_called, receiver_over, root_over, trees_in, without}
 use Rattle.grain_means.specs.Rules.Chains.{new_root}
 use Rattle.grain_means.specs.Simulation.{Computation, LocalState, Simulates, SimulatesExactly, StopPersists, stopped, world}
@@ -28,7 +26,7 @@ use Rattle.grain_means.specs.lemmas.PlaceLaws.{take-after}
 use Rattle.grain_means.specs.lemmas.Stretches.{compose, same}
 use Rattle.grain_chain.specs.Walking.{is_want, outcome_of}
 use Rattle.grain_chain.specs.declared.requests.Request.{Request}
-use Rattle.grain_frame.specs.Abstraction.{ImplementsBound, KeepsFrame, Moment, abstraction, continuation, frame_in, is_out, marked_once, moment, this_of}
+use Rattle.grain_frame.specs.Abstraction.{ImplementsBound, KeepsFrame, abstraction, frame_in, is_out, marked_once, moment, this_of}
 use Rattle.grain_frame.specs.declared.activations.Activation.{Activation}
 use Rattle.grain_frame.specs.declared.runs.Progress.{Progress}
 use Rattle.grain_frame.specs.declared.runs.Run.{Run}

@@ -1,6 +1,6 @@
 -- An instruction that may have a receiver: what it calls, and what it comes to if it calls nothing, or what
 -- is its target.
-use Rattle.std.proofs.Common.{◌≡◌, ◌∙◌, ◌<◌, ◌≤◌, ◌+◌, ◌-◌, ℕ, zero, suc, List, [], ◌∷◌, Option, Some, None, true, Result, Ok, Err, length, refl, sym, ap, subst, arith}
+use Rattle.std.proofs.Common.{◌≡◌, ◌∙◌, ◌<◌, ◌≤◌, ◌+◌, ◌-◌, ℕ, zero, suc, List, [], ◌∷◌, Option, Some, None, Result, Ok, Err, length, refl, sym, ap, subst, arith}
 use Rattle.grain_value.specs.Cells.{flat}
 use Rattle.grain_value.specs.Looking.{pointer_of}
 use Rattle.grain_value.specs.Operands.{arguments, values_in}
@@ -8,16 +8,15 @@ use Rattle.grain_value.specs.declared.memory.OutOfMemory.{OutOfMemory}
 use Rattle.grain_value.specs.declared.values.Dynamic.{Dynamic}
 use Rattle.grain_value.specs.declared.values.Dynamic.TheVariants as dynamic
 use Rattle.grain_value.specs.declared.values.FnPtr.{FnPtr}
-use Rattle.grain_fault.specs.Problems.{NoMemory, Problem}
 use Rattle.grain_host.specs.Law.{Law}
 use Rattle.grain_program.specs.View.{View}
 use Rattle.grain_program.specs.declared.code.instruction_set.Op.{Op}
 use Rattle.grain_program.specs.declared.code.instruction_set.Op.TheVariants as op
 use Rattle.grain_global.specs.StepsView.{StepsView}
 use Rattle.grain_global.specs.declared.engines.Engine.{Engine}
-use Rattle.grain_means.specs.Worlds.{is_stop, Act, Frame, Place, Setup, World}
+use Rattle.grain_means.specs.Worlds.{Act, Frame, Place, Setup, World}
 use Rattle.grain_means.specs.Means.{setup}
-use Rattle.grain_means.specs.Rules.{enter_function, first_called, flat_or_race, instr, leave_by_fault, method_call, operand_under, pointer_called, raised, receiver_called, target_called, without}
+use Rattle.grain_means.specs.Rules.{enter_function, first_called, flat_or_race, instr, method_call, operand_under, pointer_called, raised, receiver_called, target_called, without}
 use Rattle.grain_means.specs.Rules as rules
 use Rattle.grain_means.specs.Simulation.{Computation, Environment, Simulates, stopped, world}
 use Rattle.grain_means.specs.lemmas.Stretches.{compose, exactly, same}

@@ -37,7 +37,6 @@ use Rattle.grain_vm.specs.declared.driving.Answered.TheVariants as answered
 use Rattle.grain_vm.specs.declared.driving.AskingNative.{AskingNative}
 use Rattle.grain_frame.specs.Natives.{Seeks}
 use Rattle.grain_frame.specs.Waiting.{apart_of, lent_of}
-use Rattle.grain_frame.specs.declared.waiting.Loan.{Loan}
 use Rattle.grain_frame.specs.declared.native_calls.Sought.TheVariants as sought
 use Rattle.grain_frame.specs.declared.runs.Run.{Run}
 use Rattle.grain_vm.proofs.Lending.{hears_asked, hears_race, hears_memory, hears_none, hears_constant, hears_value, hears_fault}

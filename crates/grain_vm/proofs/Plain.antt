@@ -1,5 +1,5 @@
 -- Plain instructions, and what follows where one is not plain.
-use Rattle.std.proofs.Common.{◌≡◌, ◌∙◌, true, false, Option, Some, None, Result, Ok, refl, sym, subst, ap}
+use Rattle.std.proofs.Common.{◌≡◌, ◌∙◌, true, false, Option, None, Result, Ok, refl, sym, subst, ap}
 use Rattle.grain_value.specs.declared.memory.OutOfMemory.{OutOfMemory}
 use Rattle.grain_program.specs.View.{View}
 use Rattle.grain_program.specs.declared.code.instruction_set.Op.{Op}

@@ -1,9 +1,7 @@
 -- An instruction with a receiver at which a frame stands, before it is done and afterwards.
-use Rattle.std.proofs.Common.{◌≡◌, ◌+◌, ℕ, Result, Ok, refl, sym, subst, arith}
+use Rattle.std.proofs.Common.{◌≡◌, ℕ, Result, Ok, refl, sym, subst, arith}
 use Rattle.grain_value.specs.declared.memory.OutOfMemory.{OutOfMemory}
 use Rattle.grain_program.specs.View.{View}
-use Rattle.grain_program.specs.Effects.{gives_of, handling_of, leads_of, takes_of}
-use Rattle.grain_program.specs.declared.code.effects.Handling.TheVariants as handling
 use Rattle.grain_program.specs.declared.code.instruction_set.Op.TheVariants as op
 use Rattle.grain_host.specs.Law.{Law}
 use Rattle.grain_global.specs.declared.engines.Engine.{Engine}

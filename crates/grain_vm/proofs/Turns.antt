@@ -1,29 +1,22 @@
 -- One turn of a frame's loop, and how a frame is left.
-use Rattle.std.proofs.Common.{◌≡◌, ◌≤◌, ◌+◌, ℕ, inl, inr, Option, [], ◌∷◌, ◌++◌, Bool, true, false, Ok, List, length, ◌∙◌, take, refl, sym, subst, ap, arith}
+use Rattle.std.proofs.Common.{◌≡◌, ◌+◌, ℕ, Option, [], ◌∷◌, ◌++◌, Bool, true, false, Ok, List, length, ◌∙◌, take, refl, sym, subst, ap, arith}
 use Rattle.grain_fault.specs.declared.faults.EvalAltResult.{EvalAltResult}
 use Rattle.grain_fault.specs.Problems.{Problem}
-use Rattle.grain_program.specs.Decoding.{op_at}
 use Rattle.grain_program.specs.View.{View}
 use Rattle.grain_program.specs.TypedAt.{IsTypedAt}
 use Rattle.grain_program.specs.declared.code.parts.Chunk.{Chunk}
 use Rattle.grain_stack.specs.Views.{StackFrame}
-use Rattle.grain_means.specs.Worlds.{Go, End, Failed, Setup, Frame, InFrame, Place}
-use Rattle.grain_means.specs.Rules.{or_return, start_instruction, leave_by_fault}
-use Rattle.grain_means.specs.Ends.{went}
+use Rattle.grain_means.specs.Worlds.{End, Failed, Setup, Frame, Place}
+use Rattle.grain_means.specs.Rules.{leave_by_fault}
 use Rattle.grain_means.specs.Simulation.{LocalState, Computation, Simulates, SimulatesExactly, StopPersists}
-use Rattle.grain_means.specs.lemmas.Stretches.{same, compose, before}
-use Rattle.grain_host.specs.Law.{Law}
-use Rattle.grain_global.specs.declared.engines.Engine.{Engine}
-use Rattle.grain_means.specs.Means.{setup}
-use Rattle.grain_frame.specs.Abstraction.{abstraction, tries_in, Above, instruction_here, continuation, KeepsFrame, Progresses, Runs, Stepped, moment}
+use Rattle.grain_means.specs.lemmas.Stretches.{same, compose}
+use Rattle.grain_frame.specs.Abstraction.{tries_in, Above, continuation, KeepsFrame, Runs}
 use Rattle.grain_frame.specs.Receivers.{KeepsBound}
 use Rattle.grain_frame.specs.declared.receivers.Bound.{Bound}
 use Rattle.grain_frame.specs.Attempts.{Unchanged}
 use Rattle.grain_vm.specs.Methods.{NoneAbove}
 use Rattle.grain_vm.proofs.BoundFrames.{still_none}
-use Rattle.grain_frame.specs.Abstraction.{begun_one}
 use Rattle.grain_frame.specs.declared.runs.Progress.{Progress}
-use Rattle.grain_frame.specs.declared.runs.Progress.TheVariants as progress
 use Rattle.grain_frame.specs.declared.runs.Run.{Run}
 use Rattle.grain_frame.specs.declared.activations.Activation.{Activation}
 use Rattle.grain_global.specs.StepsView.{StepsView}

@@ -12,7 +12,7 @@ use Rattle.grain_means.specs.Tasks.{Task, Walked, Done}
 use Rattle.grain_means.specs.Rules.InWorld.{walks}
 use Rattle.grain_means.specs.Rules.Chains.{chain_over, new_root, walk_at, walk_from}
 use Rattle.grain_means.specs.Simulation as simulation
-use Rattle.grain_means.specs.Simulation.{Binds, Environment, LocalState, Simulates, SimulatesExactly, puts, stopped, world}
+use Rattle.grain_means.specs.Simulation.{Binds, Environment, LocalState, Simulates, puts, stopped, world}
 use Rattle.grain_means.specs.lemmas.Added.{look-added, spread-added}
 use Rattle.grain_means.specs.lemmas.PlaceLaws.{find-put, put-find, take-after}
 use Rattle.grain_vm.specs.Driving.{after_walk}

@@ -7,11 +7,11 @@ use Rattle.grain_frame.specs.Abstraction.{StandsAt}
 use Rattle.grain_frame.specs.declared.activations.Activation.{Activation}
 use Rattle.grain_frame.specs.declared.runs.Run.{Run}
 use Rattle.grain_vm.specs.declared.apart.CallOnCopy.{CallOnCopy}
-use Rattle.grain_vm.specs.declared.apart.CallOnCopy.TheVariants as apart
+use Rattle.grain_vm.specs.declared.apart.CallOnCopy.TheVariants as on_copy
 
 -- what is known of a call that is done on a copy of the frame
-abbrev pub StandsApart : {H : Type 0} → View → Activation → Run H → CallOnCopy → Type 0
-StandsApart program f s (apart.Pointer count next) =
+abbrev pub StandsAtCall : {H : Type 0} → View → Activation → Run H → CallOnCopy → Type 0
+StandsAtCall program f s (on_copy.Pointer count next) =
     StandsAt program f s (op.CallFnPtr count) next
-StandsApart program f s (apart.Native name count next) =
+StandsAtCall program f s (on_copy.Native name count next) =
     StandsAt program f s (op.Call name count) next × (function_of program name count ≡ None)

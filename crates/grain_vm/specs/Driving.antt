@@ -33,7 +33,6 @@ use Rattle.grain_chain.specs.declared.requests.WalkAnswer.{WalkAnswer}
 use Rattle.grain_chain.specs.declared.requests.WalkAnswer.TheVariants as answer
 use Rattle.grain_chain.specs.declared.walks.Walk.{Walk}
 use Rattle.grain_program.specs.View.{View}
-use Rattle.grain_frame.specs.Abstraction.{abstraction}
 use Rattle.grain_frame.specs.Natives.{Seeks}
 use Rattle.grain_frame.specs.declared.native_calls.Arguments.{Arguments}
 use Rattle.grain_frame.specs.declared.native_calls.Sought.TheVariants as sought

@@ -1,5 +1,5 @@
 -- A native that is called on a receiver and asks for calls first: where the receiver is meanwhile.
-use Rattle.std.specs.Prelude.{◌≡◌, ℕ, List, [], ◌∷◌, ◌++◌, Option, Some, None, Result, false, length, take, slice_set}
+use Rattle.std.specs.Prelude.{◌≡◌, ℕ, List, [], ◌∷◌, ◌++◌, Option, Some, None, false, length, take, slice_set}
 use Rattle.grain_value.specs.Tree.{Tree}
 use Rattle.grain_value.specs.Cells.{idle}
 use Rattle.grain_value.specs.declared.scopes.Entry.{Entry}
@@ -22,7 +22,6 @@ use Rattle.grain_frame.specs.declared.waiting.Loan.TheVariants as have
 use Rattle.grain_vm.specs.Driving.{SameFlag, name_in}
 use Rattle.grain_vm.specs.Methods.{given_to}
 use Rattle.grain_vm.specs.Receivers.{CallOn, CallsOn, HearsRoot, NativeCalled, native_call}
-use Rattle.grain_vm.specs.declared.driving.AskingNative.{AskingNative}
 use Rattle.grain_vm.specs.declared.natives.LentCell.{LentCell}
 use Rattle.grain_vm.specs.declared.natives.OnReceiver.{OnReceiver}
 use Rattle.grain_vm.specs.declared.natives.OnReceiver.TheVariants as on

@@ -18,7 +18,6 @@ use Rattle.grain_fault.specs.declared.places.Position.{Position}
 use Rattle.grain_program.specs.Lookups.{function_by_text}
 use Rattle.grain_program.specs.View.{View, position_of}
 use Rattle.grain_program.specs.declared.code.functions.Function.{Function}
-use Rattle.grain_program.specs.declared.code.instruction_set.Op.{Op}
 use Rattle.grain_global.specs.StepsView.{StepsView}
 use Rattle.grain_means.specs.Worlds.{Act, Answer, Frame, Place, Setup, World}
 use Rattle.grain_means.specs.Rules.{flat_all, native_on_read, only_read, operand_under, position, race_text, receiver_called, trees_in, without}
@@ -29,17 +28,14 @@ use Rattle.grain_means.specs.Simulation.{Simulates}
 use Rattle.grain_chain.specs.Walking.{is_want, outcome_of}
 use Rattle.grain_chain.specs.declared.requests.Request.{Request}
 use Rattle.grain_chain.specs.declared.requests.What.TheVariants as what
-use Rattle.grain_frame.specs.Abstraction.{ImplementsBound, Moment, PerformsBound, Raises, frame_in, marked_once, this_of}
+use Rattle.grain_frame.specs.Abstraction.{ImplementsBound, Moment, Raises, frame_in, marked_once, this_of}
 use Rattle.grain_frame.specs.Receivers.{with_newest}
 use Rattle.grain_frame.specs.declared.native_calls.Arguments.{Arguments}
 use Rattle.grain_frame.specs.declared.runs.Progress.{Progress}
 use Rattle.grain_frame.specs.declared.runs.Progress.TheVariants as progress
 use Rattle.grain_frame.specs.declared.runs.Run.{Run}
 use Rattle.grain_vm.specs.Driving.{DescribesAfter, beside, name_in}
-use Rattle.grain_vm.specs.Finding.{FindsFunction}
 use Rattle.grain_vm.specs.Methods.{HasFunction, given_to}
-use Rattle.grain_vm.specs.declared.finding.Found.{Found}
-use Rattle.grain_vm.specs.declared.finding.Found.TheVariants as found
 use Rattle.grain_vm.specs.declared.methods.Needed.{Needed}
 use Rattle.grain_vm.specs.declared.methods.Needed.TheVariants as needed
 use Rattle.grain_vm.specs.declared.receivers.Callee.{Callee}

@@ -1,9 +1,10 @@
 //! Instructions that the loop does not do itself: calls of pointers and of names that no function has,
-//! plain instructions, and apart from them those that walk along a place or may wait for a native.
+//! plain instructions, and, in functions of their own, those that walk along a place or may wait for a
+//! native.
 
 ghost use Rattle.grain_frame.specs.Abstraction.{Runs, StandsAt, Stepped, setup_of, moment};
 ghost use Rattle.grain_frame.specs.Attempts.{CallsNothing};
-ghost use Rattle.grain_vm.specs.Apart.{StandsApart};
+ghost use Rattle.grain_vm.specs.Apart.{StandsAtCall};
 ghost use Rattle.grain_vm.specs.Methods.{NoneAbove};
 ghost use Rattle.grain_program.specs.declared.code.instruction_set.Op.TheVariants as op;
 
@@ -28,7 +29,7 @@ pub enum CallOnCopy {
     Native { name: u16, count: u8, next: usize },
 }
 
-// Does a call apart from the loop: of a pointer, or of a name that no function has.
+// Does a call on a copy of the frame: of a pointer, or of a name that no function has.
 #[cycle(run)]
 #[inline(always)]
 pub(crate) fn pointer_or_native<H: Host, L: Ledger>(
@@ -37,16 +38,16 @@ pub(crate) fn pointer_or_native<H: Host, L: Ledger>(
     host: &mut H,
     steps: &mut Steps<L>,
     frame: &mut Activation,
-    apart: CallOnCopy,
+    on_copy: CallOnCopy,
 ) -> Result<Progress, OutOfMemory>
     requires runs { Runs context.program.now frame.old run.old }
     requires none { NoneAbove run.old.level run.old.receivers }
-    requires stands { StandsApart context.program.now frame.old run.old apart }
+    requires stands { StandsAtCall context.program.now frame.old run.old on_copy }
     ensures stepped { Stepped (setup_of H.law context.entry)
         (moment frame.old run.old steps.old host.old) result
         (moment frame.new run.new steps.new host.new) }
 {
-    match apart {
+    match on_copy {
         CallOnCopy::Pointer { count, next } => {
             call_pointer(run, context, host, steps, frame, count, next)
         }

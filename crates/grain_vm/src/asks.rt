@@ -117,8 +117,7 @@ pub(crate) fn native_by_name<H: Host, L: Ledger>(
 // `call` of a name that no function has: the native of that name is called on the last `count`
 // operands.
 #[cycle(run)]
-#[cold]
-#[inline(never)]
+#[inline(always)]
 pub(crate) fn call_native<H: Host, L: Ledger>(
     run: &mut Run<H>,
     context: Context<'_>,

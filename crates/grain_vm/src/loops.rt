@@ -9,7 +9,7 @@ ghost use Rattle.grain_vm.specs.Catching.{activation_at, stop_continuation, Stop
 ghost use Rattle.grain_frame.specs.Abstraction.{abstraction, frame_in, is_out, continuation, KeepsFrame, ContinuesAt, Runs, Stepped, setup_of, moment};
 ghost use Rattle.grain_vm.specs.Calls.{LeavesAround, frame_over, entry_of};
 ghost use Rattle.grain_frame.specs.Attempts.{CallsNothing, IsPending};
-ghost use Rattle.grain_vm.specs.Apart.{StandsApart};
+ghost use Rattle.grain_vm.specs.Apart.{StandsAtCall};
 ghost use Rattle.grain_vm.specs.Methods.{NoneAbove};
 ghost use Rattle.grain_program.specs.Indices.{IsNamed};
 
@@ -96,7 +96,7 @@ fn proceed<H: Host, L: Ledger>(
         (moment frame.old run.old steps.old host.old) result
         (moment frame.new run.new steps.new host.new) }
 {
-    let apart = match pending {
+    let on_copy = match pending {
         Pending::Call { name, count, next } => {
             match context
                 .program
@@ -112,7 +112,7 @@ fn proceed<H: Host, L: Ledger>(
         Pending::Pointer { count, next } => CallOnCopy::Pointer { count, next },
         Pending::Other => return step_on_copy(run, context, host, steps, frame),
     };
-    call_on_copy(run, context, host, steps, frame, apart)
+    call_on_copy(run, context, host, steps, frame, on_copy)
 }
 
 // Does a call apart from the loop, on a copy of the frame, so that the loop can keep its own in registers.
@@ -125,17 +125,17 @@ fn call_on_copy<H: Host, L: Ledger>(
     host: &mut H,
     steps: &mut Steps<L>,
     frame: &mut Activation,
-    apart: CallOnCopy,
+    on_copy: CallOnCopy,
 ) -> Result<Progress, OutOfMemory>
     requires runs { Runs context.program.now frame.old run.old }
     requires none { NoneAbove run.old.level run.old.receivers }
-    requires stands { StandsApart context.program.now frame.old run.old apart }
+    requires stands { StandsAtCall context.program.now frame.old run.old on_copy }
     ensures stepped { Stepped (setup_of H.law context.entry)
         (moment frame.old run.old steps.old host.old) result
         (moment frame.new run.new steps.new host.new) }
 {
     let mut copy = *frame;
-    let progress = pointer_or_native(run, context, host, steps, &mut copy, apart);
+    let progress = pointer_or_native(run, context, host, steps, &mut copy, on_copy);
     frame.address = copy.address;
     frame.floor = copy.floor;
     frame.slot = copy.slot;

@@ -15,7 +15,7 @@ ghost use Rattle.grain_vm.specs.Machines.{begin, finish, with_memory_fault};
 
 use crate::main_runs::run_main;
 use grain_fault::{EvalAltResult, Fault, RhaiResult};
-use grain_frame::{Context, Receivers, Run, SavedScopes, Stopped};
+use grain_frame::{ArgumentRoom, Context, Receivers, Run, SavedScopes, Stopped};
 use grain_global::{Engine, GlobalRuntimeState, Steps};
 use grain_host::Host;
 use grain_program::Program;
@@ -144,6 +144,7 @@ impl<'e> Machine<'e> {
             },
             waiting: None,
             receivers: Receivers::new(alloc),
+            room: ArgumentRoom::new(alloc),
             host: PhantomData,
         };
         let back = run_main(&mut run, context, host, steps);
@@ -159,6 +160,7 @@ impl<'e> Machine<'e> {
             receivers: _,
             stopped: _,
             waiting: _,
+            room: _,
             host: _,
         } = run;
         self.stacks = stacks;

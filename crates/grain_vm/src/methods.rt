@@ -309,7 +309,8 @@ fn bind_arguments<H: Host>(
     let mut index = 0;
     'arguments: for value in arguments.into_vec() {
         let name = names.at(params[index] as usize);
-        run.scope.push_shared(name, Held::read_write(value))?;
+        let mut held = Held::read_write(value);
+        run.scope.push_moved(name, &mut held)?;
         index += 1;
     }
     run.stacks.enter(function.chunk.max_stack)

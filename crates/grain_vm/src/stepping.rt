@@ -19,7 +19,7 @@ use grain_value::OutOfMemory;
 use std::sync::ledger::Ledger;
 
 /// What came of an instruction that is neither `call` nor `call_fn_ptr`, before it runs a method.
-#[derive(Drop)]
+#[derive(Clone, Copy, Debug, PartialEq, Eq)]
 pub enum Turn {
     /// It is done.
     Done(Progress),

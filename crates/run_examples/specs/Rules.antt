@@ -1,5 +1,5 @@
 -- Which rule a listing says, and how the run of one ends.
-use Rattle.std.specs.Prelude.{◌≡◌, ℕ, min, Bool, true, false, List, [], Result, Ok, Err, ⊤}
+use Rattle.std.specs.Prelude.{◌≡◌, ℕ, min, Bool, true, List, [], Result, Ok, Err, ⊤}
 use Rattle.grain_value.specs.declared.values.Dynamic.{Dynamic}
 use Rattle.grain_value.specs.declared.values.Limits.{Limits}
 use Rattle.grain_value.specs.declared.scopes.Entry.{Entry}

@@ -17,6 +17,25 @@ fn kinds(rt: &impl Abort, alloc: Global, kind: u32) -> Kinds {
     kinds
 }
 
+/// The kinds from 1 to 5.
+fn five_kinds(rt: &impl Abort, alloc: Global) -> Kinds {
+    let mut kinds = Kinds::new(alloc);
+    for kind in [1, 2, 3, 4, 5] {
+        kinds.push(kind).expect(rt, "memory");
+    }
+    kinds
+}
+
+#[test]
+fn more_than_four_kinds(rt: HostRuntime) {
+    let kinds = five_kinds(&rt, rt.alloc());
+    assert!(rt; kinds.len() == 5);
+    assert!(rt; kinds.as_slice() == [1, 2, 3, 4, 5].as_slice());
+    assert!(rt; kinds.get(4) == Some(&5));
+    assert!(rt; kinds.get(5).is_none());
+    assert!(rt; Kinds::new(rt.alloc()).is_empty());
+}
+
 fn push_var(rt: &impl Abort, alloc: Global, module: &mut Module, name: &str, integer: i64) {
     let name = text_of(rt, alloc, name);
     let pushed = module.push_var(name, Dynamic::Int(integer));

@@ -2,6 +2,7 @@
 
 use crate::made::text_of;
 use grain_value::{OutOfMemory, Text};
+use std::alloc::Global;
 use std::process::Abort;
 
 fn grow(text: &mut Text) -> Result<(), OutOfMemory> {
@@ -27,4 +28,30 @@ fn texts_grow(rt: HostRuntime) {
     check_grown(&rt, &text);
     let copy = text.copy(rt.alloc()).expect(&rt, "memory");
     assert!(rt; copy.as_str() == text.as_str());
+}
+
+/// Writes a copy, and looks that the text it was made of stays as it is.
+fn check_apart(rt: &impl Abort, alloc: Global, text: &Text, whole: &str) {
+    let mut copy = text.copy(alloc).expect(rt, "memory");
+    copy.push_str("b").expect(rt, "memory");
+    assert_eq!(rt; copy.as_str(), whole);
+}
+
+#[test]
+fn a_written_copy_leaves_the_other(rt: HostRuntime) {
+    let mut text = text_of(&rt, rt.alloc(), "a");
+    check_apart(&rt, rt.alloc(), &text, "ab");
+    assert_eq!(&rt; text.as_str(), "a");
+    let copy = text.copy(rt.alloc()).expect(&rt, "memory");
+    text.push('c').expect(&rt, "memory");
+    assert_eq!(&rt; text.as_str(), "ac");
+    assert_eq!(&rt; copy.as_str(), "a");
+}
+
+#[test]
+fn a_copy_of_nothing_is_written(rt: HostRuntime) {
+    let text = Text::new(rt.alloc());
+    check_apart(&rt, rt.alloc(), &text, "b");
+    assert!(rt; text.is_empty());
+    assert!(rt; text.get(0).is_none());
 }

@@ -19,7 +19,7 @@ use Rattle.grain_program.specs.Switches.{switch_target}
 use Rattle.grain_program.specs.View.{switch_of}
 use Rattle.grain_means.specs.Contained.{CursorNames, Names}
 use Rattle.grain_means.specs.Rules as rules
-use Rattle.grain_means.specs.Rules.{advanced, counter_text, cursor_over, in_entry, innermost_cursor, outer_cursors, stepped, with_cursor, without_cursor}
+use Rattle.grain_means.specs.Rules.{advanced, counter_text, in_entry, innermost_cursor, outer_cursors, stepped, with_cursor, without_cursor}
 use Rattle.grain_means.specs.Worlds.{Act, Cursor, Frame, Setup, World}
 use Rattle.grain_means.proofs.Footing.{by_test}
 use Rattle.grain_means.proofs.Inside.{TreeNames, first_item, other_items}

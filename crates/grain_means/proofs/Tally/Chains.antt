@@ -22,7 +22,7 @@ use Rattle.grain_program.specs.declared.code.instruction_set.Op.{Op}
 use Rattle.grain_program.specs.declared.code.instruction_set.Op.TheVariants as op
 use Rattle.grain_means.specs.Places.{look}
 use Rattle.grain_means.specs.Rules as rules
-use Rattle.grain_means.specs.Rules.{assigned_operand, back_from, course_of, held_at, is_read_only, is_stop, leave_by_fault, new_root, offered, position, race_text, root_name, root_position, stepped, without}
+use Rattle.grain_means.specs.Rules.{assigned_operand, back_from, course_of, held_at, is_read_only, position, race_text, root_name, root_position, stepped, without}
 use Rattle.grain_means.specs.Tasks.{Task}
 use Rattle.grain_means.specs.Walks.{whole_walk}
 use Rattle.grain_means.specs.Worlds.{Act, Frame, Place, Setup, World}

@@ -9,7 +9,7 @@ use Rattle.grain_host.specs.Law.{Law, Outcome, Reply, Value, Fault}
 use Rattle.grain_host.specs.Law as reply
 use Rattle.grain_program.specs.declared.code.functions.Function.{Function}
 use Rattle.grain_means.specs.Rules as rules
-use Rattle.grain_means.specs.Rules.{AtPlace, Home, InCell, InScope, Receiver, arguments_back, back_in_roots, flat_all, function_back, is_told, lent_held, position, race_text, receiver_rewritten, roots_with, scope_with, with_token, without_token}
+use Rattle.grain_means.specs.Rules.{AtPlace, Home, InCell, InScope, Receiver, arguments_back, back_in_roots, flat_all, function_back, is_told, lent_held, position, race_text, receiver_rewritten, roots_with, scope_with, without_token}
 use Rattle.grain_means.specs.Worlds.{Act, Answer, Came, Callback, Failed, Place, Setup, World}
 use Rattle.grain_means.specs.lemmas.PlaceLaws.{length-put}
 use Rattle.grain_means.proofs.Footing.{by_test}

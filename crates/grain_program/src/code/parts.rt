@@ -49,18 +49,18 @@ pub struct Parts {
     pub caps: Caps,
     /// The instructions of all chunks.
     pub code: Blob,
-    /// The chunk that a run begins with.
-    pub main: Chunk,
-    /// The functions, by number.
-    pub functions: Functions,
     /// The constants, by index.
     pub consts: Array,
-    /// The names, by index.
-    pub names: Names,
     /// The operators, by index.
     pub tokens: Tokens,
     /// The op-assignments, by index.
     pub assign_ops: AssignOps,
+    /// The functions, by number.
+    pub functions: Functions,
+    /// The names, by index.
+    pub names: Names,
+    /// The chunk that a run begins with.
+    pub main: Chunk,
     /// The chains, by index.
     pub chains: Chains,
     /// The switches, by index.

@@ -32,7 +32,7 @@ impl CaseValue {
             CaseValue::Int(integer) => Ok(CaseValue::Int(*integer)),
             CaseValue::Char(character) => Ok(CaseValue::Char(*character)),
             CaseValue::Text(text) => {
-                let text = Text::copy_of(alloc, text.as_str())?;
+                let text = text.copy(alloc)?;
                 Ok(CaseValue::Text(text))
             }
         }

@@ -65,6 +65,14 @@ impl Array {
         self.values
     }
 
+    /// Takes all values away. The memory stays.
+    pub fn clear(&mut self)
+        ensures { self.new ≡ [] }
+    {
+        self.values.clear();
+        self.levels = 1;
+    }
+
     /// Puts a value at the end. After want of memory, and where the value nests too deep
     /// (`MOST_LEVELS`), the list is as it was.
     pub fn push(&mut self, value: Dynamic) -> Result<(), OutOfMemory>

@@ -55,8 +55,21 @@ impl FnPtr {
 
 impl Array {
     /// An equal list.
+    #[inline]
     #[cycle(copy)]
     pub fn copy(&self, alloc: Global) -> Result<Array, OutOfMemory>
+        ensures { IfOk result (λ array. array ≡ self.now) }
+    {
+        if self.values.is_empty() {
+            return Ok(Array::new(alloc));
+        }
+        self.copy_values(alloc)
+    }
+
+    // An equal list, of one that has values.
+    #[inline(never)]
+    #[cycle(copy)]
+    fn copy_values(&self, alloc: Global) -> Result<Array, OutOfMemory>
         ensures { IfOk result (λ array. array ≡ self.now) }
     {
         if self.levels > MOST_LEVELS {

@@ -64,7 +64,8 @@ impl Map {
         if levels > MOST_LEVELS {
             return Err(OutOfMemory);
         }
-        let old = self.pairs.insert(key.into_string(), value)?;
+        let name = key.into_string()?;
+        let old = self.pairs.insert(name, value)?;
         self.levels = levels;
         Ok(old)
     }

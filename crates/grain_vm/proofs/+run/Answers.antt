@@ -1,13 +1,13 @@
-use Rattle.std.proofs.Common.{◌≡◌, ◌∙◌, ◌<◌, ◌-◌, arith, rules, ℕ, List, Option, Bool, Ok, length, refl, subst, None, ap, ◌+◌, ◌++◌, ◌∷◌, [], Some, map, sym, true, false, Err, inr}
+use Rattle.std.proofs.Common.{◌≡◌, ◌∙◌, ◌<◌, ◌-◌, arith, rules, ℕ, List, Bool, Ok, length, refl, subst, None, ap, ◌+◌, ◌++◌, ◌∷◌, [], Some, map, sym, true, false, Err, inr}
 use Rattle.grain_means.specs.Means.{setup}
-use Rattle.grain_frame.specs.Abstraction.{frame_in, this_of, is_out, moment, abstraction, Implements, ImplementsBound}
+use Rattle.grain_frame.specs.Abstraction.{frame_in, this_of, is_out, moment, abstraction, ImplementsBound}
 use Rattle.grain_vm.specs.Driving.{IsApart}
 use Rattle.grain_vm.specs.Methods.{NoneAbove, given_to}
 use Rattle.grain_frame.specs.declared.waiting.Performed.TheVariants as performed
 use Rattle.grain_frame.specs.lemmas.Bound.{arm_bound, as_bound}
 use Rattle.grain_vm.proofs.Found.{found_stepped, function_found_so, is_done, is_function, pointer_found, stepped_on_copy, finds_of, call_refused, none_numbered, pointed_done, pointed_found}
 use Rattle.grain_frame.specs.Attempts.{IsPending}
-use Rattle.grain_vm.specs.Apart.{StandsApart}
+use Rattle.grain_vm.specs.Apart.{StandsAtCall}
 use Rattle.grain_vm.specs.declared.apart.CallOnCopy.{CallOnCopy}
 use Rattle.grain_frame.specs.declared.attempts.Pending.{Pending}
 use Rattle.grain_vm.proofs.Plain.{stepped_from}
@@ -38,7 +38,7 @@ use Rattle.grain_vm.proofs.Performing.{same_flag}
 use Rattle.grain_frame.specs.Waiting.{apart_of}
 use Rattle.std.specs.Prelude.{option_map, codes}
 use Rattle.std.specs.Vec.{vec_items}
-use Rattle.grain_vm.specs.Finding.{found_of, op_on}
+use Rattle.grain_vm.specs.Finding.{op_on}
 use Rattle.grain_vm.specs.Receivers.{called}
 use Rattle.grain_vm.proofs.OnFrames.{callee_out, callee_refused, finds_on_of, first_found, first_on, one_less, function_performed, on_function, pointed_on, target_found, two_there}
 use Rattle.grain_vm.proofs.OnCalls.{call_out, function_done, native_done}
@@ -151,7 +151,7 @@ loops::step_on_copy-returns g t c =
 
 pub apart::pointer_or_native-returns-in-Native : goal.apart::pointer_or_native-returns-in-Native
 apart::pointer_or_native-returns-in-Native g t c =
-    let at = subst (λ (q : CallOnCopy). StandsApart c.args.context.program.now c.args.frame.now
+    let at = subst (λ (q : CallOnCopy). StandsAtCall c.args.context.program.now c.args.frame.now
     c.args.run.now q) c.in-Native.is c.requires.stands in
     record { stepped = arm_bound refl refl refl at.0 c.requires.runs c.call_native.ensures.performs }
 

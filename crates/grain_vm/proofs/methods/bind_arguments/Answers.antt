@@ -1,5 +1,5 @@
 -- One argument more is bound, and in the end all are.
-use Rattle.std.proofs.Common.{rules, ◌≡◌, ◌∙◌, ◌<◌, ◌++◌, ◌∷◌, [], List, Some, ap, sym, arith, drop, get_or, length, map}
+use Rattle.std.proofs.Common.{rules, ◌≡◌, ◌∙◌, ◌<◌, ◌++◌, ◌∷◌, [], List, Some, ap, sym, arith, drop, get_or, length, map, refl}
 use Rattle.std.specs.Prelude.{slice_get}
 use Rattle.std.specs.Vec.Iter.{into_iter_items}
 use Rattle.grain_value.specs.Operands.{bound_entries, read_write}
@@ -21,18 +21,18 @@ arguments-preserved g c =
     let inside : i < length params = omega (arith, c.arguments.invariant.left, ap length first) in
     let named : slice_get names (get_or params i 0) ≡ Some c.at-name.result.now =
     rw c.names-names.ensures at c.at-name.ensures in
-    let pushed : c.push_shared.new.self ≡ c.arguments.run.scope
-    ++ new_entry c.at-name.result.now c.read_write.result ∷ [] = search rules in
+    let written = read_write c.read_write-held.result.value in
+    let pushed : c.push_moved.new.self ≡ c.arguments.run.scope
+    ++ new_entry c.at-name.result.now written ∷ [] = search rules in
     record {
-      scope = bound_next c.arguments.run.scope c.push_shared.new.self names params left i
-          c.at-name.result.now v c.read_write.result inside named c.read_write.ensures.0
-          c.read_write.ensures.1 pushed
+      scope = bound_next c.arguments.run.scope c.push_moved.new.self names params left i
+          c.at-name.result.now v written inside named c.read_write-held.ensures.0 refl pushed
           ∙ ap (λ (vs : List Dynamic). c.arguments.run.scope
           ++ bound_entries names (drop i params) (map read_write vs)) (sym first)
           ∙ c.arguments.invariant.scope;
       many = search rules;
       left = omega (arith, c.arguments.invariant.left, ap length first);
-      others = ap (λ (r : Run g.row.H.Denot). record r { scope = c.push_shared.new.self })
+      others = ap (λ (r : Run g.row.H.Denot). record r { scope = c.push_moved.new.self })
           c.arguments.invariant.others;
     }
 

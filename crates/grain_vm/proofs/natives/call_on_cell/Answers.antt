@@ -1,5 +1,5 @@
 -- A native was lent what a cell holds, or that could not be read.
-use Rattle.std.proofs.Common.{ap, refl}
+use Rattle.std.proofs.Common.{refl}
 use Rattle.std.specs.Prelude.{slice_set}
 use Rattle.grain_value.specs.Cells.{idle}
 use Rattle.grain_fault.specs.declared.faults.EvalAltResult.TheVariants as fault

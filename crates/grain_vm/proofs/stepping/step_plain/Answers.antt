@@ -1,7 +1,6 @@
 -- The instruction that was fetched is the one at which the frame stands.
 use Rattle.std.proofs.Common.{refl}
 use Rattle.grain_frame.specs.lemmas.Arms.{ready, stands}
-use Rattle.grain_vm.proofs.Plain.{plain_asks, plain_calls, plain_runs}
 use Rattle.grain_vm.proofs.stepping.step_plain.Goals as goal
 
 pub perform-requires-clause-stands : goal.perform-requires-clause-stands

@@ -20,7 +20,7 @@ pub deeper-requires : goal.deeper-requires
 deeper-requires c =
     let w = c.args.self.now in
     let k = name_of c.args.context.program.now c.args.name in
-    let same = c.in_ok-key.ensures ∙ c.name_at.ensures in
+    let same = c.in_ok-key.ensures in
     let has = c.requires.1.1 ∙ ap Some c.if-is_there.true in
     subst (λ (u : Walk). Leads (u.trail.path ++ path_step.Key c.in_ok-key.key ∷ []) (tree u.trail.here.value))
     (sym c.in_ok-pass_mark.ensures.passed)
@@ -32,7 +32,7 @@ returns-then-is_there-clause-takes c = λ getter setter.
     let w = c.args.self.now in
     let x = c.args.context in
     let k = name_of x.program.now c.args.name in
-    let same = c.in_ok-key.ensures ∙ c.name_at.ensures in
+    let same = c.in_ok-key.ensures in
     property_takes x w c.deeper.new.self c.args.role c.args.name getter setter c.args.pos c.requires.0
     (Ok None) c.requires.1.0
     (at_there x (marked w) c.deeper.new.self c.args.role c.args.name getter setter c.args.pos
@@ -57,7 +57,7 @@ returns-clause-takes c = λ getter setter.
     let x = c.args.context in
     let t = c.requires.0 in
     let k = name_of x.program.now c.args.name in
-    let same = c.in_ok-key.ensures ∙ c.name_at.ensures in
+    let same = c.in_ok-key.ensures in
     let stands = subst (λ (u : Walk). Stands u.trail t)
     (sym c.in_ok-pass_mark.ensures.passed) c.requires.1.0 in
     property_takes x w c.missing_key.new.self c.args.role c.args.name getter setter c.args.pos t

@@ -4,7 +4,6 @@ use Rattle.std.proofs.Common.{◌≡◌, ◌+◌, ◌-◌, [], Some, None, lengt
 use Rattle.std.proofs.lemmas.List.{length-take}
 use Rattle.grain_value.specs.Cells.{flat}
 use Rattle.grain_value.specs.Looking.{map_of}
-use Rattle.grain_value.specs.Maps.{Entries}
 use Rattle.grain_value.specs.Operands.{arguments, under}
 use Rattle.grain_value.specs.Writing.{type_name_of}
 use Rattle.grain_value.specs.declared.values.Dynamic.TheVariants as dynamic

@@ -19,6 +19,7 @@ of-requires g c =
     let v = value_there (flat s.cells (top ops).value) c.requires.readable in
     let are = alone_read s.cells ops v.0 c.requires.there v.1 in
     record {
+      empty = c.new-no_room.ensures;
       readable = ap (λ (o : Option (List Held)). is_some o) (last_read s.cells 1 ops
           c.frame_operands-operands.result.now (record (top ops) { value = v.0 } ∷ [])
           c.frame_operands-operands.ensures are);

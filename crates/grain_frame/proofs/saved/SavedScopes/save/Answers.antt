@@ -1,5 +1,5 @@
 -- The place of the scope that is put aside is no longer spare.
-use Rattle.std.proofs.Common.{rules, ◌≡◌, ◌∙◌, ◌+◌, ◌≤◌, length, slice_set, arith}
+use Rattle.std.proofs.Common.{rules, ◌∙◌, ◌+◌, ◌≤◌, length, slice_set}
 use Rattle.grain_frame.proofs.Spares.{first_spare, spare_after}
 use Rattle.grain_frame.proofs.saved.SavedScopes.save.Goals as goal
 
